@@ -1,0 +1,6 @@
+-- Laws of the model's definitions, for the engine's proofs and the theorems alike.
+pub mod Names
+pub mod Tests
+pub mod Lists
+pub mod Shapes
+pub mod Formed

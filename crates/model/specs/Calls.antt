@@ -1,0 +1,119 @@
+-- The calls on a cluster, and lists of calls.
+use mathlib.Core.Bool.{Bool, true, false, _||_, not}
+use mathlib.Core.List.{List, [], _∷_}
+use Prim.Native.Nat.{ℕ}
+use lib.ListN.{length, getD, set}
+use lib.Dec.{eqb, leb}
+use Rattle.model.specs.Lists.{any, removed}
+use Rattle.model.specs.Names.{LockId, MachineId, TaskId, ClientId, Mode, Address, ToDecider, ToMachine, Message, Free, Acquire, Grant, Release, Packet, Status, Idle, Waiting, Holding, LockState, Cluster, Call, AcquireCall, ReleaseCall, DeliverCall, Malformed, LockRange, MachineRange, TaskRange, ModeRange, NotIdle, StillNamed, NotHolding, IndexRange, Refusal, Answer, Accepted, Refused, Stepped, Outcome}
+use Rattle.model.specs.States.{locks, machines, tasks, clientOf, modeOf, statusOf, packets, blankPacket, lockIn, fresh}
+use Rattle.model.specs.WellFormed.{wellFormed}
+use Rattle.model.specs.Changes.{Verdict, finish}
+use Rattle.model.specs.Asking.{acquires, releases}
+use Rattle.model.specs.AtDecider.{atDecider}
+use Rattle.model.specs.AtMachine.{atMachine}
+use Rattle.model.specs.Refusals.{Cause, _when_, first}
+
+abbrev pub isIdle : Status → Bool
+isIdle Idle = true
+isIdle (Waiting m) = false
+isIdle (Holding m) = false
+
+abbrev pub isHolding : Status → Bool
+isHolding Idle = false
+isHolding (Waiting m) = false
+isHolding (Holding m) = true
+
+-- a packet names a client: FREE names none
+abbrev pub messageNames : ClientId → Message → Bool
+messageNames c (Acquire d m g) = eqb (d .0) (c .0)
+messageNames c (Grant d m) = eqb (d .0) (c .0)
+messageNames c (Release d) = eqb (d .0) (c .0)
+messageNames c Free = false
+
+abbrev pub names : ClientId → Packet → Bool
+names c p = messageNames c (p .message)
+
+-- A packet is delivered at the decider or at a machine, by its address.
+unfoldable pub delivers : Address → LockState → Packet → Verdict
+delivers ToDecider s p = atDecider s p
+delivers (ToMachine k) s p = atMachine s k p
+
+-- Delivery takes a place counted from 0; later packets move up.
+abbrev pub packetAt : LockState → ℕ → Packet
+packetAt s i = getD (packets (s .wire)) i blankPacket
+
+-- The steps on one lock's state: the rules, with refusals 9 and 10.
+unfoldable pub acquireStep : LockState → ClientId → Mode → Stepped
+acquireStep s c m = finish (acquires s c m) (packets (s .wire)) s
+
+unfoldable pub releaseStep : LockState → ClientId → Stepped
+releaseStep s c = finish (releases s c) (packets (s .wire)) s
+
+unfoldable pub deliverStep : LockState → ℕ → Stepped
+deliverStep s i = finish (delivers (packetAt s i .to) s (packetAt s i)) (removed (packets (s .wire)) i) s
+
+-- The order of tests is 11, 1, 2, 3, 4, 5, 6, 7, 8, 9, 10, each where its call has the thing.
+abbrev pub acquireCauses : Cluster → LockId → MachineId → TaskId → ℕ → List Cause
+acquireCauses x l k t m =
+    (Malformed when not (wellFormed x))
+    ∷ (LockRange when leb locks (l .0))
+    ∷ (MachineRange when leb machines (k .0))
+    ∷ (TaskRange when leb tasks (t .0))
+    ∷ (ModeRange when not (eqb m 2 || eqb m 3))
+    ∷ (NotIdle when not (isIdle (statusOf (lockIn x l) (clientOf k t))))
+    ∷ (StillNamed when any (names (clientOf k t)) (packets (lockIn x l .wire)))
+    ∷ []
+
+abbrev pub releaseCauses : Cluster → LockId → MachineId → TaskId → List Cause
+releaseCauses x l k t =
+    (Malformed when not (wellFormed x))
+    ∷ (LockRange when leb locks (l .0))
+    ∷ (MachineRange when leb machines (k .0))
+    ∷ (TaskRange when leb tasks (t .0))
+    ∷ (NotHolding when not (isHolding (statusOf (lockIn x l) (clientOf k t))))
+    ∷ []
+
+abbrev pub deliverCauses : Cluster → LockId → ℕ → List Cause
+deliverCauses x l i =
+    (Malformed when not (wellFormed x))
+    ∷ (LockRange when leb locks (l .0))
+    ∷ (IndexRange when leb (length (packets (lockIn x l .wire))) i)
+    ∷ []
+
+-- A refused call gives its number only and leaves the bench.
+abbrev pub refusing : Refusal → Cluster → Outcome
+refusing r x = record { answer = Refused r; cluster = x }
+
+-- the lock's state after the step is put in its place
+unfoldable pub settled : Answer → Cluster → LockId → LockState → Outcome
+settled Accepted x l s = record { answer = Accepted; cluster = record { locks = set (x .locks) (l .0) s } }
+settled (Refused r) x l s = refusing r x
+
+unfoldable pub unless : Answer → Cluster → LockId → Stepped → Outcome
+unless Accepted x l s = settled (s .answer) x l (s .state)
+unless (Refused r) x l s = refusing r x
+
+unfoldable pub acquire : Cluster → LockId → MachineId → TaskId → ℕ → Outcome
+acquire x l k t m = unless (first (acquireCauses x l k t m)) x l (acquireStep (lockIn x l) (clientOf k t) (modeOf m))
+
+unfoldable pub release : Cluster → LockId → MachineId → TaskId → Outcome
+release x l k t = unless (first (releaseCauses x l k t)) x l (releaseStep (lockIn x l) (clientOf k t))
+
+unfoldable pub deliver : Cluster → LockId → ℕ → Outcome
+deliver x l i = unless (first (deliverCauses x l i)) x l (deliverStep (lockIn x l) i)
+
+-- A call as data.
+unfoldable pub perform : Call → Cluster → Outcome
+perform (AcquireCall l k t m) x = acquire x l k t m
+perform (ReleaseCall l k t) x = release x l k t
+perform (DeliverCall l i) x = deliver x l i
+
+-- Each later call gets the bench that the call before returned or, refusing, left.
+unfoldable pub run : List Call → Cluster → Cluster
+run [] x = x
+run (c ∷ cs) x = run cs (perform c x .cluster)
+
+-- The first gets a fresh bench.
+abbrev pub after : List Call → Cluster
+after cs = run cs fresh

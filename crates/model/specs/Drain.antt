@@ -1,0 +1,75 @@
+-- Draining a lock.
+use mathlib.Core.Bool.{Bool, true, false, not}
+use mathlib.Core.List.{List, [], _∷_}
+use Prim.Native.Nat.{ℕ, zero, suc, _/_, _%_}
+use lib.ListN.{length}
+use lib.Dec.{leb}
+use Rattle.model.specs.Lists.{pick}
+use Rattle.model.specs.Names.{LockId, MachineId, TaskId, Packet, Status, ClientState, LockState, Cluster, Call, ReleaseCall, DeliverCall, Refusal, Malformed, LockRange, NotQuiescent, Answer, Accepted, Refused, Drained}
+use Rattle.model.specs.States.{locks, packets, lockIn}
+use Rattle.model.specs.WellFormed.{wellFormed}
+use Rattle.model.specs.Refusals.{_when_, first}
+use Rattle.model.specs.Calls.{isHolding, perform}
+
+-- 16,384 steps
+abbrev pub allowance : ℕ
+allowance = 16384
+
+-- the drain's next call, or none
+pub data Next : Type 0 where
+  none : Next
+  some : Call → Next
+
+-- With an empty wire, release the holding client of lowest number; n is the number of the first client in the list.
+unfoldable pub releaseFirst : LockId → ℕ → List ClientState → Next
+releaseFirst l n [] = none
+releaseFirst l n (c ∷ cs) = pick (isHolding (c .status)) (some (ReleaseCall l (record { 0 = n / 4 }) (record { 0 = n % 4 }))) (releaseFirst l (suc n) cs)
+
+-- Deliver place 0; with an empty wire, release; with neither, stop.
+unfoldable pub nextOf : LockId → List Packet → List ClientState → Next
+nextOf l [] cs = releaseFirst l 0 cs
+nextOf l (p ∷ ps) cs = some (DeliverCall l 0)
+
+abbrev pub nextCall : LockId → LockState → Next
+nextCall l s = nextOf l (packets (s .wire)) (s .clients)
+
+-- A lock is at rest when the drain has no step for it.
+abbrev pub Quiescent : LockId → LockState → Type 0
+Quiescent l s = Path Next (nextCall l s) none
+
+-- the calls of a drain, and how it ends
+pub record Drainage : Type 0 where
+  pub answer : Answer
+  pub calls : List Call
+  pub cluster : Cluster
+
+abbrev pub ending : Answer → Cluster → Drainage
+ending a x = record { answer = a; calls = []; cluster = x }
+
+abbrev pub after-one : Call → Drainage → Drainage
+after-one c d = record { answer = d .answer; calls = c ∷ d .calls; cluster = d .cluster }
+
+-- A drain repeats, for one lock, with the steps left falling. Its steps are these same calls; a refusal inside ends it with that number.
+unfoldable pub drainage : ℕ → LockId → Cluster → Drainage
+drainage zero l x = elim (nextCall l (lockIn x l)) [ none ↦ ending Accepted x | some c ↦ ending (Refused NotQuiescent) x ]
+drainage (suc left) l x =
+    elim (nextCall l (lockIn x l)) [
+      | none ↦ ending Accepted x
+      | some c ↦ elim (perform c x .answer) [ Accepted ↦ after-one c (drainage left l (perform c x .cluster)) | Refused r ↦ ending (Refused r) x ]
+    ]
+
+-- It returns the bench and the number of steps taken, 0 for a lock at rest. A refusal ends it with that number, count 0 and the bench
+-- first given.
+abbrev pub drainRefused : Refusal → Cluster → Drained
+drainRefused r x = record { answer = Refused r; count = 0; cluster = x }
+
+unfoldable pub drainEnded : Answer → Cluster → Drainage → Drained
+drainEnded Accepted x d = record { answer = Accepted; count = length (d .calls); cluster = d .cluster }
+drainEnded (Refused r) x d = drainRefused r x
+
+unfoldable pub drainUnless : Answer → LockId → Cluster → Drained
+drainUnless (Refused r) l x = drainRefused r x
+drainUnless Accepted l x = drainEnded (drainage allowance l x .answer) x (drainage allowance l x)
+
+unfoldable pub drain : Cluster → LockId → Drained
+drain x l = drainUnless (first ((Malformed when not (wellFormed x)) ∷ (LockRange when leb locks (l .0)) ∷ [])) l x

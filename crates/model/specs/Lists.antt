@@ -1,0 +1,28 @@
+-- A choice by a test, and tests over lists.
+use mathlib.Core.Bool.{Bool, true, false, _&&_, _||_}
+use mathlib.Core.List.{List, [], _∷_, _++_}
+use Prim.Native.Nat.{ℕ, zero, suc, _-_}
+use lib.ListN.{length, replicate}
+
+abbrev pub pick : {A : Type 0} → Bool → A → A → A
+pick true a b = a
+pick false a b = b
+
+module _ {A : Type 0} where
+  abbrev pub any : (A → Bool) → List A → Bool
+  any p [] = false
+  any p (x ∷ xs) = p x || any p xs
+
+  abbrev pub all : (A → Bool) → List A → Bool
+  all p [] = true
+  all p (x ∷ xs) = p x && all p xs
+
+  -- an array of n: the list, and blanks to the end
+  unfoldable pub padded : ℕ → A → List A → List A
+  padded n z xs = xs ++ replicate (n - length xs) z
+
+  -- the list without the element at i; later ones move up
+  unfoldable pub removed : List A → ℕ → List A
+  removed [] i = []
+  removed (x ∷ xs) zero = xs
+  removed (x ∷ xs) (suc i) = x ∷ removed xs i

@@ -1,0 +1,115 @@
+-- What stands on the bench.
+use mathlib.Core.Bool.{Bool, true, false}
+use mathlib.Core.List.{List, [], _∷_}
+use Prim.Native.Nat.{ℕ, _+_, _*_, _/_}
+use lib.ListN.{length, take, getD, replicate}
+use lib.Dec.{eqb}
+use Rattle.model.specs.Lists.{pick, padded}
+use Rattle.model.specs.Names.{LockId, MachineId, TaskId, ClientId, Mode, Exclusive, Shared, Owner, Unowned, Owned, Decider, Waiter, Queue, Agent, AgentSlot, Address, ToDecider, ToMachine, Message, Free, Packet, Wire, Status, Idle, Waiting, Holding, ClientState, LockState, Cluster}
+
+-- 8 locks (0 to 7), 4 machines (0 to 3), 4 tasks on each machine (0 to 3).
+abbrev pub locks : ℕ
+locks = 8
+
+abbrev pub machines : ℕ
+machines = 4
+
+abbrev pub tasks : ℕ
+tasks = 4
+
+abbrev pub clients : ℕ
+clients = 16
+
+-- A client is a machine and a task; its number is 4 × machine + task, 0 to 15.
+abbrev pub clientOf : MachineId → TaskId → ClientId
+clientOf k t = record { 0 = 4 * k .0 + t .0 }
+
+abbrev pub machineOf : ClientId → MachineId
+machineOf c = record { 0 = c .0 / 4 }
+
+-- Modes are those of Figure 6: free 0, exclusive 2, shared 3; only a decider's may be 0.
+abbrev pub modeNumber : Mode → ℕ
+modeNumber Exclusive = 2
+modeNumber Shared = 3
+
+abbrev pub ownerNumber : Owner → ℕ
+ownerNumber Unowned = 0
+ownerNumber (Owned m k) = modeNumber m
+
+-- the mode of a number that is 2 or 3
+abbrev pub modeOf : ℕ → Mode
+modeOf n = pick (eqb n 2) Exclusive Shared
+
+abbrev pub isShared : Mode → Bool
+isShared Exclusive = false
+isShared Shared = true
+
+-- A queue of at most 16 waiters: the first of an array's slots, the others blank.
+abbrev pub queueCapacity : ℕ
+queueCapacity = 16
+
+abbrev pub blankWaiter : Waiter
+blankWaiter = record { client = record { 0 = 0 }; mode = Exclusive }
+
+unfoldable pub queueOf : List Waiter → Queue
+queueOf ws = record { slots = padded queueCapacity blankWaiter ws; len = length ws }
+
+unfoldable pub waiters : Queue → List Waiter
+waiters q = take (q .len) (q .slots)
+
+-- For each machine, an agent or none: mode, a set of holders, a queue, incarnation.
+abbrev pub noHolders : List Bool
+noHolders = replicate clients false
+
+abbrev pub newAgent : Mode → Agent
+newAgent m = record { mode = m; holders = noHolders; queue = queueOf []; incarnation = 0 }
+
+abbrev pub seated : Agent → AgentSlot
+seated a = record { present = true; agent = a }
+
+unfoldable pub noAgent : AgentSlot
+noAgent = record { present = false; agent = newAgent Exclusive }
+
+abbrev pub agentOn : LockState → MachineId → AgentSlot
+agentOn s k = getD (s .agents) (k .0) noAgent
+
+-- its holders list the client
+abbrev pub listed : Agent → ClientId → Bool
+listed a c = getD (a .holders) (c .0) false
+
+-- For each client a status: idle, waiting in a mode, holding in a mode.
+abbrev pub idle : ClientState
+idle = record { status = Idle }
+
+abbrev pub statusOf : LockState → ClientId → Status
+statusOf s c = getD (s .clients) (c .0) idle .status
+
+-- The wire: at most 33 packets in the order they were sent.
+abbrev pub wireCapacity : ℕ
+wireCapacity = 33
+
+-- a packet that is not rejected and carries no agent
+abbrev pub packet : Message → Address → Packet
+packet m t = record { message = m; to = t; rejected = false; carried = noAgent }
+
+unfoldable pub blankPacket : Packet
+blankPacket = packet Free ToDecider
+
+unfoldable pub wireOf : List Packet → Wire
+wireOf ps = record { slots = padded wireCapacity blankPacket ps; len = length ps }
+
+unfoldable pub packets : Wire → List Packet
+packets w = take (w .len) (w .slots)
+
+-- Fresh: every lock free with incarnation 0, no agents, all idle, wires empty.
+abbrev pub unowned : Decider
+unowned = record { owner = Unowned; incarnation = 0 }
+
+unfoldable pub freshLock : LockState
+freshLock = record { decider = unowned; agents = replicate machines noAgent; clients = replicate clients idle; wire = wireOf [] }
+
+unfoldable pub fresh : Cluster
+fresh = record { locks = replicate locks freshLock }
+
+abbrev pub lockIn : Cluster → LockId → LockState
+lockIn x l = getD (x .locks) (l .0) freshLock

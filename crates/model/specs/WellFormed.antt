@@ -1,0 +1,105 @@
+-- A bench outside these bounds is malformed. A type bounds modes, owners, statuses, incarnations (eight bits) and holders already.
+use mathlib.Core.Bool.{Bool, true, false, _&&_, _||_, not}
+use mathlib.Core.List.{List, [], _∷_}
+use Prim.Native.Nat.{ℕ}
+use lib.ListN.{length, take, drop}
+use lib.Dec.{eqb, leb, ltb}
+use Rattle.model.specs.Lists.{any, all}
+use Rattle.model.specs.Names.{MachineId, ClientId, Mode, Exclusive, Shared, Owner, Unowned, Owned, Waiter, Queue, Agent, AgentSlot, Address, ToDecider, ToMachine, Message, Free, Acquire, Grant, Release, Packet, Wire, LockState, Cluster}
+use Rattle.model.specs.States.{locks, machines, clients, queueCapacity, wireCapacity, isShared}
+
+-- machines 0 to 3, clients 0 to 15
+abbrev pub machineInRange : MachineId → Bool
+machineInRange k = ltb (k .0) machines
+
+abbrev pub clientInRange : ClientId → Bool
+clientInRange c = ltb (c .0) clients
+
+abbrev pub ownerInRange : Owner → Bool
+ownerInRange Unowned = true
+ownerInRange (Owned m k) = machineInRange k
+
+abbrev pub addressInRange : Address → Bool
+addressInRange ToDecider = true
+addressInRange (ToMachine k) = machineInRange k
+
+-- An array of n, of which the first len count: what lies past them is blank.
+module _ {A : Type 0} where
+  unfoldable pub shaped : ℕ → (A → Bool) → List A → ℕ → Bool
+  shaped n blank slots len = eqb (length slots) n && (leb len n && all blank (drop len slots))
+
+unfoldable pub isBlankWaiter : Waiter → Bool
+isBlankWaiter w = eqb (w .client .0) 0 && not (isShared (w .mode))
+
+-- A queue of at most 16 waiters (client and mode, no client twice).
+abbrev pub isClient : ClientId → Waiter → Bool
+isClient c w = eqb (w .client .0) (c .0)
+
+unfoldable pub distinct : List Waiter → Bool
+distinct [] = true
+distinct (w ∷ ws) = not (any (isClient (w .client)) ws) && distinct ws
+
+abbrev pub waiterInRange : Waiter → Bool
+waiterInRange w = clientInRange (w .client)
+
+unfoldable pub queueFormed : Queue → Bool
+queueFormed q =
+    shaped queueCapacity isBlankWaiter (q .slots) (q .len) && (all waiterInRange (take (q .len) (q .slots)) && distinct (take (q .len) (q .slots)))
+
+-- An agent: a set of holders, a queue.
+unfoldable pub agentFormed : Agent → Bool
+agentFormed a = eqb (length (a .holders)) clients && queueFormed (a .queue)
+
+unfoldable pub isBlankAgent : Agent → Bool
+isBlankAgent a =
+    not (isShared (a .mode))
+    && (eqb (length (a .holders)) clients
+    && (all not (a .holders) && (shaped queueCapacity isBlankWaiter (a .queue .slots) 0 && (eqb (a .queue .len) 0 && eqb (a .incarnation) 0))))
+
+-- An agent or none.
+abbrev pub slotBy : Bool → Agent → Bool
+slotBy true a = agentFormed a
+slotBy false a = isBlankAgent a
+
+unfoldable pub slotFormed : AgentSlot → Bool
+slotFormed s = slotBy (s .present) (s .agent)
+
+-- FREE always carries an agent, GRANT sometimes, the others never. A FREE, or a GRANT with agent, may be rejected, and is then
+-- addressed to a machine; an unmarked FREE is addressed to the decider. Arguments: carries an agent, rejected, address.
+abbrev pub toDecider : Address → Bool
+toDecider ToDecider = true
+toDecider (ToMachine k) = false
+
+unfoldable pub messageFormed : Message → Bool → Bool → Address → Bool
+messageFormed (Acquire c m g) carries rejected t = clientInRange c && (not carries && not rejected)
+messageFormed (Release c) carries rejected t = clientInRange c && (not carries && not rejected)
+messageFormed (Grant c m) carries rejected t = clientInRange c && (not rejected || (carries && not (toDecider t)))
+messageFormed Free carries true t = carries && not (toDecider t)
+messageFormed Free carries false t = carries && toDecider t
+
+unfoldable pub packetFormed : Packet → Bool
+packetFormed p = messageFormed (p .message) (p .carried .present) (p .rejected) (p .to) && (addressInRange (p .to) && slotFormed (p .carried))
+
+abbrev pub isFree : Message → Bool
+isFree Free = true
+isFree (Acquire c m g) = false
+isFree (Grant c m) = false
+isFree (Release c) = false
+
+unfoldable pub isBlankPacket : Packet → Bool
+isBlankPacket p =
+    isFree (p .message) && (toDecider (p .to) && (not (p .rejected) && (not (p .carried .present) && isBlankAgent (p .carried .agent))))
+
+-- The wire: at most 33 packets.
+unfoldable pub wireFormed : Wire → Bool
+wireFormed w = shaped wireCapacity isBlankPacket (w .slots) (w .len) && all packetFormed (take (w .len) (w .slots))
+
+-- For each lock: the decider's record, an agent or none for each machine, a status for each client, the wire.
+unfoldable pub lockFormed : LockState → Bool
+lockFormed s =
+    ownerInRange (s .decider .owner)
+    && (eqb (length (s .agents)) machines
+    && (all slotFormed (s .agents) && (eqb (length (s .clients)) clients && wireFormed (s .wire))))
+
+unfoldable pub wellFormed : Cluster → Bool
+wellFormed x = eqb (length (x .locks)) locks && all lockFormed (x .locks)

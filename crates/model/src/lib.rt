@@ -1,0 +1,223 @@
+// The types of the simulated cluster. What document 01 rules out by its bounds is, where a type can say it, not representable;
+// the rest is `wellFormed` in specs/WellFormed.antt.
+ghost use mathlib.Core.Path.{_≡_};
+ghost use Rattle.model.specs.Refusals.{refusalNumber, number};
+
+// The source's lid, mid and tid: no place that wants one takes another.
+pub struct LockId(pub u8);
+
+pub struct MachineId(pub u8);
+
+pub struct TaskId(pub u8);
+
+// A machine and a task: 4 × machine + task.
+pub struct ClientId(pub u8);
+
+pub enum Mode {
+    Exclusive,
+    Shared,
+}
+
+// A decider's mode and the machine of the agent, which is nil exactly when the lock is free.
+pub enum Owner {
+    Free,
+    Owned(Mode, MachineId),
+}
+
+pub struct Decider {
+    pub owner: Owner,
+    pub incarnation: u8,
+}
+
+pub struct Waiter {
+    pub client: ClientId,
+    pub mode: Mode,
+}
+
+// The first len slots count, the others are blank; so too of a wire.
+pub struct Queue {
+    pub slots: [Waiter; 16],
+    pub len: u8,
+}
+
+pub struct Agent {
+    pub mode: Mode,
+    pub holders: [bool; 16],
+    pub queue: Queue,
+    pub incarnation: u8,
+}
+
+// An agent or none, on a machine and inside a packet.
+pub struct AgentSlot {
+    pub present: bool,
+    pub agent: Agent,
+}
+
+pub enum Address {
+    Decider,
+    Machine(MachineId),
+}
+
+// Free stands first: the machine's default value is then a blank packet's.
+pub enum Message {
+    Free,
+    Acquire {
+        client: ClientId,
+        mode: Mode,
+        granted: bool,
+    },
+    Grant {
+        client: ClientId,
+        mode: Mode,
+    },
+    Release {
+        client: ClientId,
+    },
+}
+
+// Document 01's 'turned back' is rejected: the decider refused the packet.
+pub struct Packet {
+    pub message: Message,
+    pub to: Address,
+    pub rejected: bool,
+    pub carried: AgentSlot,
+}
+
+pub struct Wire {
+    pub slots: [Packet; 33],
+    pub len: u8,
+}
+
+pub enum Status {
+    Idle,
+    Waiting(Mode),
+    Holding(Mode),
+}
+
+pub struct ClientState {
+    pub status: Status,
+}
+
+// A lock's record in document 01.
+pub struct LockState {
+    pub decider: Decider,
+    pub agents: [AgentSlot; 4],
+    pub clients: [ClientState; 16],
+    pub wire: Wire,
+}
+
+// The bench in document 01.
+pub struct Cluster {
+    pub locks: [LockState; 8],
+}
+
+// A call as data. Its numbers are as given, in range or not.
+pub enum Call {
+    Acquire {
+        lock: LockId,
+        machine: MachineId,
+        task: TaskId,
+        mode: u8,
+    },
+    Release {
+        lock: LockId,
+        machine: MachineId,
+        task: TaskId,
+    },
+    Deliver {
+        lock: LockId,
+        index: u8,
+    },
+}
+
+// One for each row of the table of refusals.
+pub enum Refusal {
+    Malformed,
+    LockRange,
+    MachineRange,
+    TaskRange,
+    ModeRange,
+    NotIdle,
+    StillNamed,
+    NotHolding,
+    IndexRange,
+    CannotPlace,
+    WireFull,
+    BadRecord,
+    TranscriptLength,
+    NotQuiescent,
+}
+
+pub enum Answer {
+    Accepted,
+    Refused(Refusal),
+}
+
+// What a step on one lock gives.
+pub struct Stepped {
+    pub answer: Answer,
+    pub state: LockState,
+}
+
+// What a call gives.
+pub struct Outcome {
+    pub answer: Answer,
+    pub cluster: Cluster,
+}
+
+// What a drain gives: the steps taken, 0 where it is refused.
+pub struct Drained {
+    pub answer: Answer,
+    pub count: u16,
+    pub cluster: Cluster,
+}
+
+// What stands at a position of a transcript.
+pub enum Reading {
+    Record { call: Call, next: usize },
+    Bad,
+    End,
+}
+
+// What the run of a transcript gives: the count of its records, the number of the bad one, or 0 where it is too long.
+pub struct Replayed {
+    pub answer: Answer,
+    pub records: u16,
+    pub cluster: Cluster,
+}
+
+impl Refusal {
+    // Document 01's number.
+    pub fn number(self) -> u8
+        ensures { λ r. ⌜ r ≡ refusalNumber self ⌝ }
+    {
+        match self {
+            Refusal::Malformed => 11,
+            Refusal::LockRange => 1,
+            Refusal::MachineRange => 2,
+            Refusal::TaskRange => 3,
+            Refusal::ModeRange => 4,
+            Refusal::NotIdle => 5,
+            Refusal::StillNamed => 6,
+            Refusal::NotHolding => 7,
+            Refusal::IndexRange => 8,
+            Refusal::CannotPlace => 9,
+            Refusal::WireFull => 10,
+            Refusal::BadRecord => 12,
+            Refusal::TranscriptLength => 13,
+            Refusal::NotQuiescent => 14,
+        }
+    }
+}
+
+impl Answer {
+    // Document 01's number: 0 for Accepted alone.
+    pub fn number(self) -> u8
+        ensures { λ r. ⌜ r ≡ number self ⌝ }
+    {
+        match self {
+            Answer::Accepted => 0,
+            Answer::Refused(r) => r.number(),
+        }
+    }
+}

@@ -1,0 +1,328 @@
+//! Delivery of a packet at the decider (Figure 8) or at a machine (Figure 7).
+//!
+//! A delivery first chooses its action, which tests refusal 9, then counts the
+//! packets that the action sends, which tests refusal 10, and only then
+//! changes the lock state.
+
+use crate::answer::{Outcome, Refusal};
+use crate::model::{
+    Address, Agent, ClientId, ClientStatus, Cluster, Decider, LockId, LockState, MachineId,
+    Message, Mode, Owner, Packet, Waiter,
+};
+use crate::requests::check_wire_length;
+
+/// What a delivery does; each variant is one rule of document 01.
+#[derive(Clone, Copy, Debug)]
+enum Action {
+    /// The decider of a free lock makes a new agent for the request.
+    CreateAgent,
+    /// The decider grants a shared request and informs the agent.
+    GrantShared(Owner),
+    /// The packet goes on to another address, otherwise as it is.
+    Forward(Address),
+    /// The decider accepts a FREE.
+    FreeLock,
+    /// The decider accepts a GRANT with agent.
+    TransferAgent,
+    /// The decider rejects a FREE or a GRANT with agent.
+    RejectAgent(Owner),
+    /// A machine shows a client its grant, which brings no agent.
+    ShowGrant,
+    /// A machine shows a client its grant and installs the agent with it.
+    InstallAgent(MachineId),
+    /// The agent lists the client of an ACQUIRE that the decider granted.
+    ConfirmHolder(MachineId),
+    /// The agent lists the client of a shared request and grants it.
+    AddHolder(MachineId),
+    /// The agent queues the client of a request.
+    Enqueue(MachineId),
+    /// The agent removes a holder.
+    RemoveHolder(MachineId),
+    /// A machine takes a rejected agent back.
+    RestoreAgent(MachineId),
+}
+
+impl Cluster {
+    pub fn deliver(&mut self, lock: LockId, place: u8) -> Outcome {
+        self.check_well_formed()?;
+        let state = self.lock_mut(lock)?;
+        state.deliver(usize::from(place))
+    }
+}
+
+impl LockState {
+    pub(crate) fn deliver(&mut self, place: usize) -> Outcome {
+        let packet = self.wire.get(place).ok_or(Refusal::PlaceOutOfRange)?;
+        let action = match packet.address {
+            Address::Decider => self.decider.action_for(packet)?,
+            Address::Machine(machine) => self.machine_action(machine, packet)?,
+        };
+        let expected = self.wire.len() - 1 + self.sent_by(action, packet);
+        check_wire_length(expected)?;
+        let packet = self.wire.remove(place);
+        match packet.address {
+            Address::Decider => self.apply_at_decider(action, packet),
+            Address::Machine(_) => self.apply_at_machine(action, packet),
+        }
+        debug_assert_eq!(self.wire.len(), expected);
+        Ok(())
+    }
+
+    /// The number of packets that an action sends.
+    fn sent_by(&self, action: Action, packet: &Packet) -> usize {
+        match action {
+            Action::GrantShared(_) => 2,
+            Action::CreateAgent
+            | Action::Forward(_)
+            | Action::TransferAgent
+            | Action::RejectAgent(_)
+            | Action::AddHolder(_) => 1,
+            Action::FreeLock
+            | Action::ShowGrant
+            | Action::ConfirmHolder(_)
+            | Action::Enqueue(_)
+            | Action::RestoreAgent(_) => 0,
+            Action::InstallAgent(_) => match (packet.message, &packet.agent) {
+                (Message::Grant { mode, .. }, Some(agent)) if mode == Mode::Shared => {
+                    let shared = agent.queue.iter().filter(|w| w.mode == Mode::Shared);
+                    shared.count()
+                }
+                _ => 0,
+            },
+            Action::RemoveHolder(machine) => match packet.message.client() {
+                Some(client) => self.sent_by_removal(machine, client),
+                None => 0,
+            },
+        }
+    }
+
+    fn machine_action(&self, machine: MachineId, packet: &Packet) -> Result<Action, Refusal> {
+        let installed = self.agents[machine.index()].as_ref();
+        let go_back = Action::Forward(Address::Decider);
+        if let Some(carried) = &packet.agent {
+            return carried_agent_action(machine, installed, carried, packet);
+        }
+        match (packet.message, installed) {
+            (Message::Grant { .. }, _) => Ok(Action::ShowGrant),
+            (Message::Acquire { .. } | Message::Release { .. }, None) => Ok(go_back),
+            (Message::Acquire { granted: true, .. }, Some(agent)) => match agent.mode {
+                Mode::Shared => Ok(Action::ConfirmHolder(machine)),
+                // "a marked ACQUIRE at an exclusive agent" cannot be placed.
+                Mode::Exclusive => Err(Refusal::CannotBePlaced),
+            },
+            (Message::Acquire { client, mode, .. }, Some(agent)) => {
+                if agent.mode == Mode::Shared && mode == Mode::Shared {
+                    Ok(Action::AddHolder(machine))
+                } else if agent.can_enqueue(client) {
+                    Ok(Action::Enqueue(machine))
+                } else {
+                    Err(Refusal::CannotBePlaced)
+                }
+            }
+            (Message::Release { client }, Some(agent)) => {
+                let is_listed = agent.holders.contains(client);
+                Ok(if is_listed {
+                    Action::RemoveHolder(machine)
+                } else {
+                    go_back
+                })
+            }
+            (Message::Free, _) => unreachable!("a well-formed FREE carries an agent"),
+        }
+    }
+
+    fn apply_at_decider(&mut self, action: Action, mut packet: Packet) {
+        match action {
+            Action::CreateAgent => self.create_agent(packet.message),
+            Action::GrantShared(owner) => self.grant_shared(owner, packet.message),
+            Action::Forward(address) => {
+                packet.address = address;
+                self.wire.push(packet);
+            }
+            Action::FreeLock => self.decider = Decider::default(),
+            Action::TransferAgent => self.transfer_agent(packet),
+            Action::RejectAgent(owner) => {
+                packet.rejected = true;
+                packet.address = Address::Machine(owner.machine);
+                self.wire.push(packet);
+            }
+            _ => unreachable!("the action belongs to a machine"),
+        }
+    }
+
+    fn create_agent(&mut self, request: Message) {
+        let Message::Acquire { client, mode, .. } = request else {
+            unreachable!("only an ACQUIRE creates an agent");
+        };
+        let machine = client.machine();
+        self.decider = Decider {
+            owner: Some(Owner { mode, machine }),
+            incarnation: 0,
+        };
+        self.wire.push(Packet::with_agent(
+            Message::Grant { client, mode },
+            Address::Machine(machine),
+            Agent::new(mode),
+        ));
+    }
+
+    fn grant_shared(&mut self, owner: Owner, request: Message) {
+        let Message::Acquire { client, mode, .. } = request else {
+            unreachable!("only an ACQUIRE is granted at once");
+        };
+        // "The incarnation has eight bits and goes from 255 to 0."
+        self.decider.incarnation = self.decider.incarnation.wrapping_add(1);
+        self.wire.push(Packet::new(
+            Message::Grant { client, mode },
+            Address::Machine(client.machine()),
+        ));
+        let granted = true;
+        self.wire.push(Packet::new(
+            Message::Acquire {
+                client,
+                mode,
+                granted,
+            },
+            Address::Machine(owner.machine),
+        ));
+    }
+
+    fn transfer_agent(&mut self, mut packet: Packet) {
+        let (Message::Grant { client, mode }, Some(agent)) = (packet.message, &mut packet.agent)
+        else {
+            unreachable!("only a GRANT with agent transfers an agent");
+        };
+        let machine = client.machine();
+        self.decider = Decider {
+            owner: Some(Owner { mode, machine }),
+            incarnation: 0,
+        };
+        agent.incarnation = 0;
+        packet.address = Address::Machine(machine);
+        self.wire.push(packet);
+    }
+
+    fn apply_at_machine(&mut self, action: Action, packet: Packet) {
+        let client = packet.message.client();
+        match (action, packet.message, client) {
+            (Action::Forward(address), ..) => self.wire.push(Packet { address, ..packet }),
+            (Action::RestoreAgent(machine), ..) => self.restore_agent(machine, packet),
+            (Action::ShowGrant, Message::Grant { client, mode }, _) => {
+                self.clients[client.index()] = ClientStatus::Holding(mode);
+            }
+            (Action::InstallAgent(machine), Message::Grant { client, mode }, _) => {
+                self.clients[client.index()] = ClientStatus::Holding(mode);
+                self.install_agent(machine, client, mode, packet.agent);
+            }
+            (Action::ConfirmHolder(machine), _, Some(client)) => {
+                let agent = self.agent_mut(machine);
+                agent.holders.insert(client);
+                agent.incarnation = agent.incarnation.wrapping_add(1);
+            }
+            (Action::AddHolder(machine), Message::Acquire { client, mode, .. }, _) => {
+                self.agent_mut(machine).holders.insert(client);
+                self.send_plain_grant(client, mode);
+            }
+            (Action::Enqueue(machine), Message::Acquire { client, mode, .. }, _) => {
+                let queue = &mut self.agent_mut(machine).queue;
+                queue.push_back(Waiter { client, mode });
+            }
+            (Action::RemoveHolder(machine), _, Some(client)) => self.remove_holder(machine, client),
+            _ => unreachable!("the action does not belong to the packet"),
+        }
+    }
+
+    fn install_agent(
+        &mut self,
+        machine: MachineId,
+        client: ClientId,
+        mode: Mode,
+        carried: Option<Agent>,
+    ) {
+        let mut agent = carried.expect("the GRANT carries an agent");
+        agent.mode = mode;
+        agent.holders.insert(client);
+        if mode == Mode::Shared {
+            // "every shared waiter, in queue order, leaves the queue"
+            for waiter in agent.queue.iter().filter(|w| w.mode == Mode::Shared) {
+                agent.holders.insert(waiter.client);
+                self.send_plain_grant(waiter.client, waiter.mode);
+            }
+            agent.queue.retain(|waiter| waiter.mode != Mode::Shared);
+        }
+        self.agents[machine.index()] = Some(agent);
+    }
+
+    fn restore_agent(&mut self, machine: MachineId, packet: Packet) {
+        let mut agent = packet.agent.expect("a rejected packet carries an agent");
+        if let Message::Grant { client, mode } = packet.message {
+            agent.queue.push_front(Waiter { client, mode });
+        }
+        self.agents[machine.index()] = Some(agent);
+    }
+
+    /// Sends the decider a GRANT without agent.
+    fn send_plain_grant(&mut self, client: ClientId, mode: Mode) {
+        let message = Message::Grant { client, mode };
+        self.wire.push(Packet::new(message, Address::Decider));
+    }
+
+    fn agent_mut(&mut self, machine: MachineId) -> &mut Agent {
+        let slot = &mut self.agents[machine.index()];
+        slot.as_mut().expect("the action was chosen for an agent")
+    }
+}
+
+impl Decider {
+    fn action_for(&self, packet: &Packet) -> Result<Action, Refusal> {
+        if let (Message::Grant { client, .. }, None) = (packet.message, &packet.agent) {
+            return Ok(Action::Forward(Address::Machine(client.machine())));
+        }
+        let unmarked_mode = match packet.message {
+            Message::Acquire { mode, granted, .. } if !granted => Some(mode),
+            _ => None,
+        };
+        let Some(owner) = self.owner else {
+            // A free decider places nothing but an unmarked ACQUIRE.
+            let created = unmarked_mode.map(|_| Action::CreateAgent);
+            return created.ok_or(Refusal::CannotBePlaced);
+        };
+        let Some(agent) = &packet.agent else {
+            let both_shared = owner.mode == Mode::Shared && unmarked_mode == Some(Mode::Shared);
+            return Ok(if both_shared {
+                Action::GrantShared(owner)
+            } else {
+                Action::Forward(Address::Machine(owner.machine))
+            });
+        };
+        // Equality, never "at least": an old agent must not end a newer grant.
+        Ok(if agent.incarnation != self.incarnation {
+            Action::RejectAgent(owner)
+        } else if packet.message == Message::Free {
+            Action::FreeLock
+        } else {
+            Action::TransferAgent
+        })
+    }
+}
+
+/// The action for a packet with an agent that arrives at a machine.
+fn carried_agent_action(
+    machine: MachineId,
+    installed: Option<&Agent>,
+    carried: &Agent,
+    packet: &Packet,
+) -> Result<Action, Refusal> {
+    // "at a machine that has an agent, another agent" cannot be placed.
+    if installed.is_some() {
+        return Err(Refusal::CannotBePlaced);
+    }
+    if !packet.rejected {
+        return Ok(Action::InstallAgent(machine));
+    }
+    // The client of a rejected GRANT goes back to the queue; a FREE has none.
+    match packet.message.client() {
+        Some(client) if !carried.can_enqueue(client) => Err(Refusal::CannotBePlaced),
+        _ => Ok(Action::RestoreAgent(machine)),
+    }
+}

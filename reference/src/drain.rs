@@ -1,0 +1,62 @@
+//! The drain of one lock.
+
+use crate::answer::{Outcome, Refusal};
+use crate::model::{ClientId, ClientStatus, Cluster, LockId, LockState, CLIENTS};
+
+/// "drain not at rest after 16,384 steps".
+pub const DRAIN_LIMIT: u16 = 16_384;
+
+enum DrainStep {
+    DeliverOldest,
+    Release(ClientId),
+}
+
+impl Cluster {
+    /// Drains a lock and returns the number of steps; a refused drain leaves
+    /// the cluster as given.
+    pub fn drain(&mut self, lock: LockId) -> Result<u16, Refusal> {
+        self.check_well_formed()?;
+        let state = self.lock_mut(lock)?;
+        let mut drained = state.clone();
+        let steps = drained.drain()?;
+        *state = drained;
+        Ok(steps)
+    }
+}
+
+impl LockState {
+    /// Whether the drain has no step for this lock.
+    pub fn is_quiescent(&self) -> bool {
+        self.next_drain_step().is_none()
+    }
+
+    fn drain(&mut self) -> Result<u16, Refusal> {
+        let mut steps = 0;
+        while let Some(step) = self.next_drain_step() {
+            if steps == DRAIN_LIMIT {
+                return Err(Refusal::NotQuiescent);
+            }
+            self.perform(step)?;
+            steps += 1;
+        }
+        Ok(steps)
+    }
+
+    /// "deliver place 0; with an empty wire, release the holding client of
+    /// lowest number; with neither, stop".
+    fn next_drain_step(&self) -> Option<DrainStep> {
+        if !self.wire.is_empty() {
+            return Some(DrainStep::DeliverOldest);
+        }
+        let holding = |&c: &usize| matches!(self.clients[c], ClientStatus::Holding(_));
+        let lowest = (0..CLIENTS).find(holding)?;
+        Some(DrainStep::Release(ClientId(lowest as u8)))
+    }
+
+    fn perform(&mut self, step: DrainStep) -> Outcome {
+        match step {
+            DrainStep::DeliverOldest => self.deliver(0),
+            DrainStep::Release(client) => self.release(client),
+        }
+    }
+}

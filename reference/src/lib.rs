@@ -1,0 +1,21 @@
+//! A reference program for the lock fission protocol as document 01 fixes it.
+//!
+//! A cluster has eight locks on four machines with four tasks each. Its calls
+//! are `acquire`, `release`, `deliver`, `drain` and `run_transcript`; a refused
+//! call leaves the cluster exactly as it was.
+
+pub mod answer;
+mod delivery;
+pub mod digest;
+mod drain;
+pub mod generator;
+pub mod model;
+pub mod random_runs;
+pub mod random_states;
+pub mod random_transcripts;
+mod requests;
+pub mod transcript;
+mod well_formed;
+
+pub use answer::{answer_number, Outcome, Refusal};
+pub use drain::DRAIN_LIMIT;

@@ -1,0 +1,262 @@
+//! The state of the cluster: locks, machines, tasks and packets in flight.
+//!
+//! The types can also hold states outside the bounds of document 01, so that
+//! hand-made malformed states can be represented and refused.
+
+use std::collections::VecDeque;
+
+pub const LOCKS: usize = 8;
+pub const MACHINES: usize = 4;
+pub const TASKS_PER_MACHINE: usize = 4;
+pub const CLIENTS: usize = MACHINES * TASKS_PER_MACHINE;
+pub const QUEUE_CAPACITY: usize = 16;
+pub const WIRE_CAPACITY: usize = 33;
+
+#[derive(Clone, Copy, Debug, PartialEq, Eq)]
+pub struct LockId(pub u8);
+
+#[derive(Clone, Copy, Debug, PartialEq, Eq)]
+pub struct MachineId(pub u8);
+
+#[derive(Clone, Copy, Debug, PartialEq, Eq)]
+pub struct TaskId(pub u8);
+
+/// A client number, 4 × machine + task; hand-made states may pass 15.
+#[derive(Clone, Copy, Debug, PartialEq, Eq)]
+pub struct ClientId(pub u8);
+
+impl LockId {
+    pub fn is_valid(self) -> bool {
+        self.index() < LOCKS
+    }
+
+    pub fn index(self) -> usize {
+        usize::from(self.0)
+    }
+}
+
+impl MachineId {
+    pub fn is_valid(self) -> bool {
+        self.index() < MACHINES
+    }
+
+    pub fn index(self) -> usize {
+        usize::from(self.0)
+    }
+}
+
+impl TaskId {
+    pub fn is_valid(self) -> bool {
+        usize::from(self.0) < TASKS_PER_MACHINE
+    }
+}
+
+impl ClientId {
+    /// The client of a valid machine and a valid task.
+    pub fn new(machine: MachineId, task: TaskId) -> Self {
+        ClientId(machine.0 * TASKS_PER_MACHINE as u8 + task.0)
+    }
+
+    pub fn is_valid(self) -> bool {
+        self.index() < CLIENTS
+    }
+
+    pub fn index(self) -> usize {
+        usize::from(self.0)
+    }
+
+    pub fn machine(self) -> MachineId {
+        MachineId(self.0 / TASKS_PER_MACHINE as u8)
+    }
+}
+
+/// A mode that a request, a waiter or an agent may have.
+#[derive(Clone, Copy, Debug, PartialEq, Eq)]
+pub enum Mode {
+    Exclusive,
+    Shared,
+}
+
+impl Mode {
+    pub fn number(self) -> u8 {
+        match self {
+            Mode::Exclusive => 2,
+            Mode::Shared => 3,
+        }
+    }
+
+    pub fn from_number(number: u8) -> Option<Self> {
+        match number {
+            2 => Some(Mode::Exclusive),
+            3 => Some(Mode::Shared),
+            _ => None,
+        }
+    }
+}
+
+/// A set of the sixteen clients, one bit for each.
+#[derive(Clone, Copy, Debug, Default, PartialEq, Eq)]
+pub struct ClientSet(u16);
+
+impl ClientSet {
+    pub fn insert(&mut self, client: ClientId) {
+        self.0 |= 1 << client.0;
+    }
+
+    pub fn remove(&mut self, client: ClientId) {
+        self.0 &= !(1 << client.0);
+    }
+
+    pub fn contains(self, client: ClientId) -> bool {
+        self.0 & (1 << client.0) != 0
+    }
+
+    pub fn is_empty(self) -> bool {
+        self.0 == 0
+    }
+
+    /// Whether the set would be empty without this client.
+    pub fn is_only(self, client: ClientId) -> bool {
+        self.0 == 1 << client.0
+    }
+}
+
+#[derive(Clone, Copy, Debug, PartialEq, Eq)]
+pub struct Waiter {
+    pub client: ClientId,
+    pub mode: Mode,
+}
+
+#[derive(Clone, Debug, PartialEq, Eq)]
+pub struct Agent {
+    pub mode: Mode,
+    pub holders: ClientSet,
+    pub queue: VecDeque<Waiter>,
+    pub incarnation: u8,
+}
+
+impl Agent {
+    pub fn new(mode: Mode) -> Self {
+        Agent {
+            mode,
+            holders: ClientSet::default(),
+            queue: VecDeque::new(),
+            incarnation: 0,
+        }
+    }
+
+    /// Document 01 refuses a client "that would join, or go back to, a queue
+    /// where it already stands or that holds 16".
+    pub fn can_enqueue(&self, client: ClientId) -> bool {
+        self.queue.len() < QUEUE_CAPACITY && self.queue.iter().all(|w| w.client != client)
+    }
+}
+
+/// The mode of a lock that is not free and the machine of its agent.
+#[derive(Clone, Copy, Debug, PartialEq, Eq)]
+pub struct Owner {
+    pub mode: Mode,
+    pub machine: MachineId,
+}
+
+/// The owner is absent exactly when the lock is free.
+#[derive(Clone, Copy, Debug, Default, PartialEq, Eq)]
+pub struct Decider {
+    pub owner: Option<Owner>,
+    pub incarnation: u8,
+}
+
+#[derive(Clone, Copy, Debug, Default, PartialEq, Eq)]
+pub enum ClientStatus {
+    #[default]
+    Idle,
+    Waiting(Mode),
+    Holding(Mode),
+}
+
+#[derive(Clone, Copy, Debug, PartialEq, Eq)]
+pub enum Message {
+    Acquire {
+        client: ClientId,
+        mode: Mode,
+        granted: bool,
+    },
+    Grant {
+        client: ClientId,
+        mode: Mode,
+    },
+    Release {
+        client: ClientId,
+    },
+    Free,
+}
+
+impl Message {
+    /// The client that the message names; "FREE names no client".
+    pub fn client(&self) -> Option<ClientId> {
+        match *self {
+            Message::Acquire { client, .. } => Some(client),
+            Message::Grant { client, .. } => Some(client),
+            Message::Release { client } => Some(client),
+            Message::Free => None,
+        }
+    }
+}
+
+#[derive(Clone, Copy, Debug, PartialEq, Eq)]
+pub enum Address {
+    Decider,
+    Machine(MachineId),
+}
+
+#[derive(Clone, Debug, PartialEq, Eq)]
+pub struct Packet {
+    pub message: Message,
+    pub address: Address,
+    pub rejected: bool,
+    pub agent: Option<Agent>,
+}
+
+impl Packet {
+    /// A packet that is not rejected and carries no agent.
+    pub fn new(message: Message, address: Address) -> Self {
+        Packet {
+            message,
+            address,
+            rejected: false,
+            agent: None,
+        }
+    }
+
+    /// A packet that is not rejected and carries an agent.
+    pub fn with_agent(message: Message, address: Address, agent: Agent) -> Self {
+        Packet {
+            agent: Some(agent),
+            ..Packet::new(message, address)
+        }
+    }
+}
+
+/// All that the cluster keeps for one lock.
+#[derive(Clone, Debug, Default, PartialEq, Eq)]
+pub struct LockState {
+    pub decider: Decider,
+    pub agents: [Option<Agent>; MACHINES],
+    pub clients: [ClientStatus; CLIENTS],
+    /// Packets in flight, oldest first.
+    pub wire: Vec<Packet>,
+    /// Stands for an unused slot that is not blank in a fixed-slot layout.
+    pub stale_slot: bool,
+}
+
+/// The default cluster is the fresh one of document 01.
+#[derive(Clone, Debug, Default, PartialEq, Eq)]
+pub struct Cluster {
+    pub locks: [LockState; LOCKS],
+}
+
+impl Cluster {
+    pub fn new() -> Self {
+        Cluster::default()
+    }
+}

@@ -1,0 +1,147 @@
+//! Acquire and release by a client (Figure 6).
+
+use crate::answer::{Outcome, Refusal};
+use crate::model::{
+    Address, ClientId, ClientStatus, Cluster, LockId, LockState, MachineId, Message, Mode, Packet,
+    TaskId, Waiter, WIRE_CAPACITY,
+};
+
+impl Cluster {
+    pub fn acquire(
+        &mut self,
+        lock: LockId,
+        machine: MachineId,
+        task: TaskId,
+        mode: u8,
+    ) -> Outcome {
+        self.check_well_formed()?;
+        let state = self.lock_mut(lock)?;
+        let client = checked_client(machine, task)?;
+        let mode = Mode::from_number(mode).ok_or(Refusal::ModeInvalid)?;
+        state.acquire(client, mode)
+    }
+
+    pub fn release(&mut self, lock: LockId, machine: MachineId, task: TaskId) -> Outcome {
+        self.check_well_formed()?;
+        let state = self.lock_mut(lock)?;
+        let client = checked_client(machine, task)?;
+        state.release(client)
+    }
+
+    /// The state of a lock, or refusal 1.
+    pub(crate) fn lock_mut(&mut self, lock: LockId) -> Result<&mut LockState, Refusal> {
+        self.locks
+            .get_mut(lock.index())
+            .ok_or(Refusal::LockOutOfRange)
+    }
+}
+
+/// Refusals 2 and 3, in this order.
+fn checked_client(machine: MachineId, task: TaskId) -> Result<ClientId, Refusal> {
+    if !machine.is_valid() {
+        return Err(Refusal::MachineOutOfRange);
+    }
+    if !task.is_valid() {
+        return Err(Refusal::TaskOutOfRange);
+    }
+    Ok(ClientId::new(machine, task))
+}
+
+impl LockState {
+    fn acquire(&mut self, client: ClientId, mode: Mode) -> Outcome {
+        if self.clients[client.index()] != ClientStatus::Idle {
+            return Err(Refusal::ClientNotIdle);
+        }
+        if self.wire.iter().any(|p| p.message.client() == Some(client)) {
+            return Err(Refusal::ClientOnWire);
+        }
+        self.clients[client.index()] = match &mut self.agents[client.machine().index()] {
+            Some(agent) if agent.mode == Mode::Shared && mode == Mode::Shared => {
+                agent.holders.insert(client);
+                ClientStatus::Holding(mode)
+            }
+            Some(agent) if agent.can_enqueue(client) => {
+                agent.queue.push_back(Waiter { client, mode });
+                ClientStatus::Waiting(mode)
+            }
+            Some(_) => return Err(Refusal::CannotBePlaced),
+            None => {
+                check_wire_length(self.wire.len() + 1)?;
+                let granted = false;
+                let message = Message::Acquire {
+                    client,
+                    mode,
+                    granted,
+                };
+                self.wire.push(Packet::new(message, Address::Decider));
+                ClientStatus::Waiting(mode)
+            }
+        };
+        Ok(())
+    }
+
+    pub(crate) fn release(&mut self, client: ClientId) -> Outcome {
+        if !matches!(self.clients[client.index()], ClientStatus::Holding(_)) {
+            return Err(Refusal::ClientNotHolding);
+        }
+        let machine = client.machine();
+        let is_listed = self.is_listed(machine, client);
+        let sent = if is_listed {
+            self.sent_by_removal(machine, client)
+        } else {
+            1
+        };
+        check_wire_length(self.wire.len() + sent)?;
+        self.clients[client.index()] = ClientStatus::Idle;
+        if is_listed {
+            self.remove_holder(machine, client);
+        } else {
+            let message = Message::Release { client };
+            self.wire.push(Packet::new(message, Address::Decider));
+        }
+        Ok(())
+    }
+
+    /// Whether the machine has an agent that lists the client as a holder.
+    pub(crate) fn is_listed(&self, machine: MachineId, client: ClientId) -> bool {
+        let agent = self.agents[machine.index()].as_ref();
+        agent.is_some_and(|agent| agent.holders.contains(client))
+    }
+
+    /// The number of packets that `remove_holder` would send.
+    pub(crate) fn sent_by_removal(&self, machine: MachineId, client: ClientId) -> usize {
+        let agent = self.agents[machine.index()].as_ref();
+        usize::from(agent.is_some_and(|agent| agent.holders.is_only(client)))
+    }
+
+    /// Removes a listed holder; then the agent "leaves if empty".
+    pub(crate) fn remove_holder(&mut self, machine: MachineId, client: ClientId) {
+        let slot = &mut self.agents[machine.index()];
+        let Some(agent) = slot.as_mut() else {
+            return;
+        };
+        agent.holders.remove(client);
+        if !agent.holders.is_empty() {
+            return;
+        }
+        let next = agent.queue.pop_front();
+        let Some(agent) = slot.take() else {
+            return;
+        };
+        let message = match next {
+            Some(Waiter { client, mode }) => Message::Grant { client, mode },
+            None => Message::Free,
+        };
+        self.wire
+            .push(Packet::with_agent(message, Address::Decider, agent));
+    }
+}
+
+/// Refusal 10, from the length that the wire would have after the step.
+pub(crate) fn check_wire_length(length: usize) -> Outcome {
+    if length > WIRE_CAPACITY {
+        Err(Refusal::WireFull)
+    } else {
+        Ok(())
+    }
+}

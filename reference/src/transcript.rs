@@ -1,0 +1,178 @@
+//! Transcripts: reading records, running them, and the listing.
+
+use crate::answer::{answer_number, Outcome, Refusal};
+use crate::model::{Cluster, LockId, MachineId, TaskId};
+use std::fmt::Write;
+
+/// A longer transcript is refused with 13.
+pub const TRANSCRIPT_LIMIT: usize = 65_535;
+
+/// The first line of every listing.
+pub const LISTING_HEADER: &str = "n kind answer wire\n";
+
+/// Length and kind, two bytes each, come before the arguments.
+const PREFIX: usize = 4;
+
+#[derive(Clone, Copy, Debug, PartialEq, Eq)]
+pub enum Record {
+    Acquire(LockId, MachineId, TaskId, u8),
+    Release(LockId, MachineId, TaskId),
+    Deliver(LockId, u8),
+}
+
+impl Record {
+    pub fn kind(&self) -> u16 {
+        match self {
+            Record::Acquire(..) => 1,
+            Record::Release(..) => 2,
+            Record::Deliver(..) => 3,
+        }
+    }
+
+    pub fn lock(&self) -> LockId {
+        match *self {
+            Record::Acquire(lock, ..) | Record::Release(lock, ..) | Record::Deliver(lock, _) => {
+                lock
+            }
+        }
+    }
+
+    pub fn run(&self, cluster: &mut Cluster) -> Outcome {
+        match *self {
+            Record::Acquire(lock, machine, task, mode) => {
+                cluster.acquire(lock, machine, task, mode)
+            }
+            Record::Release(lock, machine, task) => cluster.release(lock, machine, task),
+            Record::Deliver(lock, place) => cluster.deliver(lock, place),
+        }
+    }
+
+    fn parse(kind: u16, arguments: &[u8]) -> Option<Record> {
+        match (kind, arguments) {
+            (1, &[lock, machine, task, mode]) => Some(Record::Acquire(
+                LockId(lock),
+                MachineId(machine),
+                TaskId(task),
+                mode,
+            )),
+            (2, &[lock, machine, task]) => Some(Record::Release(
+                LockId(lock),
+                MachineId(machine),
+                TaskId(task),
+            )),
+            (3, &[lock, place]) => Some(Record::Deliver(LockId(lock), place)),
+            _ => None,
+        }
+    }
+}
+
+/// An iterator over the records of a transcript; it ends after a bad record.
+pub struct Records<'a> {
+    rest: &'a [u8],
+}
+
+impl<'a> Records<'a> {
+    pub fn new(bytes: &'a [u8]) -> Self {
+        Records { rest: bytes }
+    }
+
+    /// Reads one record and its whole length, or nothing when it is bad.
+    fn read(&self) -> Option<(Record, usize)> {
+        let length = usize::from(u16::from_le_bytes(self.rest.get(0..2)?.try_into().ok()?));
+        let kind = u16::from_le_bytes(self.rest.get(2..PREFIX)?.try_into().ok()?);
+        let arguments = self.rest.get(PREFIX..length)?;
+        Some((Record::parse(kind, arguments)?, length))
+    }
+}
+
+impl Iterator for Records<'_> {
+    type Item = Result<Record, Refusal>;
+
+    fn next(&mut self) -> Option<Self::Item> {
+        if self.rest.is_empty() {
+            return None;
+        }
+        match self.read() {
+            Some((record, length)) => {
+                self.rest = &self.rest[length..];
+                Some(Ok(record))
+            }
+            None => {
+                self.rest = &[];
+                Some(Err(Refusal::RecordInvalid))
+            }
+        }
+    }
+}
+
+/// The outcome of a whole transcript: for an accepted one the count of its
+/// records, for a bad record its number, otherwise 0.
+#[derive(Clone, Copy, Debug, PartialEq, Eq)]
+pub struct TranscriptOutcome {
+    pub answer: Outcome,
+    pub record: usize,
+}
+
+impl Cluster {
+    pub fn run_transcript(&mut self, bytes: &[u8]) -> TranscriptOutcome {
+        self.run_transcript_with(bytes, |_, _, _, _| ())
+    }
+
+    /// Runs a transcript and shows every good record, with its number, its
+    /// outcome and the cluster after it.
+    pub fn run_transcript_with(
+        &mut self,
+        bytes: &[u8],
+        mut show: impl FnMut(usize, &Record, Outcome, &Cluster),
+    ) -> TranscriptOutcome {
+        if let Err(refusal) = self.check_transcript(bytes) {
+            let answer = Err(refusal);
+            return TranscriptOutcome { answer, record: 0 };
+        }
+        let mut record = 0;
+        for read in Records::new(bytes) {
+            record += 1;
+            match read {
+                // "a refused step inside it doesn't stop the reading"
+                Ok(step) => {
+                    let outcome = step.run(self);
+                    show(record, &step, outcome, self);
+                }
+                Err(refusal) => {
+                    let answer = Err(refusal);
+                    return TranscriptOutcome { answer, record };
+                }
+            }
+        }
+        let answer = Ok(());
+        TranscriptOutcome { answer, record }
+    }
+
+    /// "A transcript call tests 11, then 13, before any record is run."
+    fn check_transcript(&self, bytes: &[u8]) -> Outcome {
+        self.check_well_formed()?;
+        if bytes.len() > TRANSCRIPT_LIMIT {
+            return Err(Refusal::TranscriptTooLong);
+        }
+        Ok(())
+    }
+}
+
+/// The listing of a transcript that runs on a fresh cluster.
+pub fn listing(bytes: &[u8]) -> String {
+    let mut text = String::from(LISTING_HEADER);
+    let outcome = Cluster::new().run_transcript_with(bytes, |number, step, outcome, cluster| {
+        let (kind, answer) = (step.kind(), answer_number(&outcome));
+        // A lock out of range has no wire to count.
+        let wire = match cluster.locks.get(step.lock().index()) {
+            Some(state) => state.wire.len().to_string(),
+            None => String::from("-"),
+        };
+        writeln!(text, "{number} {kind} {answer} {wire}").expect("a string takes every write");
+    });
+    if let Err(refusal) = outcome.answer {
+        let (record, answer) = (outcome.record, refusal.number());
+        writeln!(text, "{record} - {answer} -").expect("a string takes every write");
+    }
+    text
+}

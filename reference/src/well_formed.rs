@@ -1,0 +1,81 @@
+//! The bounds of document 01: "A bench outside these bounds is malformed."
+
+use crate::answer::{Outcome, Refusal};
+use crate::model::{
+    Address, Agent, ClientSet, Cluster, LockState, Message, Packet, QUEUE_CAPACITY, WIRE_CAPACITY,
+};
+
+impl Cluster {
+    pub fn is_well_formed(&self) -> bool {
+        self.locks.iter().all(LockState::is_well_formed)
+    }
+
+    /// Refusal 11 comes before every other test of every call.
+    pub(crate) fn check_well_formed(&self) -> Outcome {
+        if self.is_well_formed() {
+            Ok(())
+        } else {
+            Err(Refusal::Malformed)
+        }
+    }
+}
+
+impl LockState {
+    pub fn is_well_formed(&self) -> bool {
+        let owner_in_range = self.decider.owner.is_none_or(|o| o.machine.is_valid());
+        owner_in_range
+            && !self.stale_slot
+            && self.agents.iter().flatten().all(Agent::is_well_formed)
+            && self.wire.len() <= WIRE_CAPACITY
+            && self.wire.iter().all(Packet::is_well_formed)
+    }
+}
+
+impl Agent {
+    /// "a queue of at most 16 waiters (client and mode, no client twice)".
+    fn is_well_formed(&self) -> bool {
+        let mut seen = ClientSet::default();
+        self.queue.len() <= QUEUE_CAPACITY
+            && self.queue.iter().all(|waiter| {
+                let new = waiter.client.is_valid() && !seen.contains(waiter.client);
+                if new {
+                    seen.insert(waiter.client);
+                }
+                new
+            })
+    }
+}
+
+impl Packet {
+    fn is_well_formed(&self) -> bool {
+        let address_in_range = match self.address {
+            Address::Decider => true,
+            Address::Machine(machine) => machine.is_valid(),
+        };
+        address_in_range
+            && self.message.client().is_none_or(|client| client.is_valid())
+            && self.agent.as_ref().is_none_or(Agent::is_well_formed)
+            && self.has_allowed_agent()
+            && self.has_allowed_mark()
+    }
+
+    /// "FREE always carries one, GRANT sometimes, the others never."
+    fn has_allowed_agent(&self) -> bool {
+        match self.message {
+            Message::Free => self.agent.is_some(),
+            Message::Grant { .. } => true,
+            Message::Acquire { .. } | Message::Release { .. } => self.agent.is_none(),
+        }
+    }
+
+    /// "A FREE, or a GRANT with agent, may be marked turned back, and is then
+    /// addressed to a machine; an unmarked FREE is addressed to the decider."
+    fn has_allowed_mark(&self) -> bool {
+        if self.rejected {
+            let kind = matches!(self.message, Message::Free | Message::Grant { .. });
+            kind && self.agent.is_some() && self.address != Address::Decider
+        } else {
+            self.message != Message::Free || self.address == Address::Decider
+        }
+    }
+}
