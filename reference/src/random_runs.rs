@@ -4,13 +4,13 @@ use crate::answer::{answer_number, Outcome};
 use crate::digest::Digest;
 use crate::generator::Generator;
 use crate::model::{
-    ClientId, ClientStatus, Cluster, LockId, LockState, MachineId, Message, Mode, Packet, TaskId,
-    LOCKS,
+    Address, ClientId, ClientStatus, Cluster, LockId, LockState, MachineId, Message, Mode, Packet,
+    TaskId, LOCKS, WIRE_CAPACITY,
 };
 use std::io::{self, Write};
 
 pub const FIRST_RUN: u64 = 1;
-pub const LAST_RUN: u64 = 1_120;
+pub const LAST_RUN: u64 = 1_350;
 /// A digest line stands after every so many steps.
 const LINE_STEPS: u64 = 256;
 /// The whole cluster enters the digest after every so many steps.
@@ -31,6 +31,7 @@ pub struct Profile {
     pub wild: u64,
     pub delay_granted: bool,
     pub delay_agents: bool,
+    pub delay_requests: bool,
     pub pin_client_0: bool,
 }
 
@@ -42,6 +43,7 @@ const BASE: Profile = Profile {
     wild: 1,
     delay_granted: false,
     delay_agents: false,
+    delay_requests: false,
     pin_client_0: false,
 };
 
@@ -79,15 +81,25 @@ const WILD: Profile = Profile {
     ..BASE
 };
 const PINNED_READER: Profile = Profile {
-    steps: 4096,
+    steps: 3072,
     shared: 64,
-    wild: 1,
     pin_client_0: true,
     ..BASE
 };
 
+const LATE_REQUESTS: Profile = Profile {
+    delay_requests: true,
+    ..BASE
+};
+const LATE_WRITERS: Profile = Profile {
+    shared: 48,
+    deliver: 40,
+    delay_granted: true,
+    ..BASE
+};
+
 /// A run takes the profile that its seed gives modulo the number of profiles.
-pub const PROFILES: [Profile; 7] = [
+pub const PROFILES: [Profile; 9] = [
     CONTENTION,
     STARVED_READERS,
     DELAYED_AGENTS,
@@ -95,6 +107,8 @@ pub const PROFILES: [Profile; 7] = [
     UNIFORM,
     WILD,
     PINNED_READER,
+    LATE_REQUESTS,
+    LATE_WRITERS,
 ];
 
 /// The profile of the calls on a hand-made state.
@@ -113,6 +127,18 @@ pub struct Tally {
     pub longest_drain: u64,
     pub longest_wire: usize,
     pub incarnation_wraps: u64,
+}
+
+impl Tally {
+    /// Notes what a call did to an incarnation and a wire.
+    fn compare(&mut self, before: (u8, usize), after: (u8, usize)) {
+        // Only the shared grant of a decider makes the wire longer by delivery.
+        let wraps = before.0 == 255 && after.0 == 0 && after.1 > before.1;
+        self.incarnation_wraps += u64::from(wraps);
+        if after.1 <= WIRE_CAPACITY {
+            self.longest_wire = self.longest_wire.max(after.1);
+        }
+    }
 }
 
 /// Where the lines of a run go, and how many of them.
@@ -204,16 +230,21 @@ impl Run {
             let kind = DRAIN;
             self.drain(Call { kind, ..call }, report)?;
         }
+        let before = self.observe(call.lock);
         let outcome = call.perform(&mut self.cluster);
         self.accepted += u64::from(outcome.is_ok());
         self.note(call, answer_number(&outcome), None, report)?;
+        report.tally.compare(before, self.observe(call.lock));
         if self.step % CLUSTER_STEPS == 0 {
             self.digest.cluster(&self.cluster);
         }
-        if let Some(lock) = self.cluster.locks.get(call.lock.index()) {
-            report.tally.longest_wire = report.tally.longest_wire.max(lock.wire.len().min(33));
-        }
         Ok(())
+    }
+
+    /// The incarnation of a decider and the length of its lock's wire.
+    fn observe(&self, lock: LockId) -> (u8, usize) {
+        let state = self.cluster.locks.get(lock.index());
+        state.map_or((0, 0), |s| (s.decider.incarnation, s.wire.len()))
     }
 
     /// A drain on a copy, which the run keeps or forgets by its seed.
@@ -223,7 +254,7 @@ impl Run {
         let steps = outcome.unwrap_or(0);
         self.note(call, answer_number(&outcome), Some(steps), report)?;
         self.digest.cluster(&drained);
-        if self.seed / 7 % 2 == 1 {
+        if self.seed / PROFILES.len() as u64 % 2 == 1 {
             self.cluster = drained;
         }
         report.tally.drain_steps += u64::from(steps);
@@ -309,9 +340,12 @@ impl Run {
     }
 
     fn is_delayed(&self, packet: &Packet) -> bool {
-        let is_granted = matches!(packet.message, Message::Acquire { granted: true, .. });
-        (self.profile.delay_granted && is_granted)
-            || (self.profile.delay_agents && packet.agent.is_some())
+        let to_machine = packet.address != Address::Decider;
+        match packet.message {
+            Message::Acquire { granted: true, .. } => self.profile.delay_granted,
+            Message::Acquire { .. } => self.profile.delay_requests && to_machine,
+            _ => self.profile.delay_agents && packet.agent.is_some(),
+        }
     }
 }
 

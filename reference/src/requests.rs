@@ -7,13 +7,7 @@ use crate::model::{
 };
 
 impl Cluster {
-    pub fn acquire(
-        &mut self,
-        lock: LockId,
-        machine: MachineId,
-        task: TaskId,
-        mode: u8,
-    ) -> Outcome {
+    pub fn acquire(&mut self, lock: LockId, machine: MachineId, task: TaskId, mode: u8) -> Outcome {
         self.check_well_formed()?;
         let state = self.lock_mut(lock)?;
         let client = checked_client(machine, task)?;

@@ -1,0 +1,5 @@
+-- Theorems about the model's definitions.
+pub mod Names
+-- the scenarios D1 to D10, and the bounds of well-formedness
+pub mod Scenarios
+pub mod Bounds

@@ -1,0 +1,308 @@
+-- The scenarios of document 01 that are marked to be proved (D1 to D10), and one for each of its tempting faults: each a start state,
+-- calls on lock 0, and the answers and the whole state of lock 0 that follow. One list, one theorem, by computation.
+use mathlib.Core.Path.{_≡_, refl}
+use mathlib.Core.Bool.{Bool, true, false}
+use mathlib.Core.List.{List, [], _∷_, _++_, map}
+use Prim.Native.Nat.{ℕ}
+use lib.ListN.{length, set, replicate}
+use Rattle.model.specs.Lists.{padded, removed}
+use Rattle.theorems.specs.Names.{LockId, MachineId, TaskId, ClientId, Mode, Exclusive, Shared, Owner, Unowned, Owned, Decider, Waiter, Agent, AgentSlot, Address, ToDecider, ToMachine, Message, Free, Acquire, Grant, Release, Packet, Status, Idle, Waiting, Holding, ClientState, LockState, Cluster, Call, AcquireCall, ReleaseCall, DeliverCall, LockRange, StillNamed, Answer, Accepted, Refused}
+use Rattle.model.specs.States.{queueOf, waiters, noHolders, newAgent, seated, noAgent, idle, packet, blankPacket, wireOf, packets, freshLock, fresh}
+use Rattle.model.specs.WellFormed.{shaped, isBlankWaiter, distinct, queueFormed, agentFormed, isBlankAgent, slotFormed, messageFormed, packetFormed, isBlankPacket, wireFormed, lockFormed, wellFormed}
+use Rattle.model.specs.Changes.{finish}
+use Rattle.model.specs.Asking.{asks, acquires, handOver, leaves, releases}
+use Rattle.model.specs.AtDecider.{toOwner, decidesAcquire, decidesFree, decidesGrant, decides, atDecider}
+use Rattle.model.specs.AtMachine.{ofMode, admitted, staying, joined, installs, granted, marked, unmarked, acquired, released, returned, arrives, atMachine}
+use Rattle.model.specs.Refusals.{first}
+use Rattle.model.specs.Calls.{delivers, acquireStep, releaseStep, deliverStep, settled, unless, acquire, release, deliver, perform, run}
+
+pub record Result : Type 0 where
+  pub answers : List Answer
+  pub cluster : Cluster
+
+pub record Scenario : Type 0 where
+  pub start : Cluster
+  pub calls : List Call
+  pub result : Result
+
+unfoldable pub answersOf : List Call → Cluster → List Answer
+answersOf [] x = []
+answersOf (c ∷ cs) x = perform c x .answer ∷ answersOf cs (perform c x .cluster)
+
+abbrev pub resultOf : Scenario → Result
+resultOf s = record { answers = answersOf (s .calls) (s .start); cluster = run (s .calls) (s .start) }
+
+-- each scenario's calls, run from its start, give its answers and its cluster
+abbrev pub Hold : List Scenario → Type 0
+Hold [] = Unit {0}
+Hold (s ∷ ss) = (resultOf s ≡ s .result) × Hold ss
+
+-- ---- words for states and calls: clients 0/0, 0/1 and 1/0 are 0, 1 and 4, and 2/0 is 8
+abbrev machine : ℕ → MachineId
+machine k = record { 0 = k }
+
+abbrev client : ℕ → ClientId
+client c = record { 0 = c }
+
+abbrev on : ℕ → LockId
+on l = record { 0 = l }
+
+abbrev acquires0 : ℕ → ℕ → ℕ → Call
+acquires0 k t m = AcquireCall (on 0) (machine k) (record { 0 = t }) m
+
+abbrev releases0 : ℕ → ℕ → Call
+releases0 k t = ReleaseCall (on 0) (machine k) (record { 0 = t })
+
+abbrev delivers0 : ℕ → Call
+delivers0 i = DeliverCall (on 0) i
+
+abbrev owned : Mode → ℕ → ℕ → Decider
+owned m k n = record { owner = Owned m (machine k); incarnation = n }
+
+-- the agent with this queue
+abbrev queue : List Waiter → Agent → Agent
+queue ws a = record { mode = a .mode; holders = a .holders; queue = queueOf ws; incarnation = a .incarnation }
+
+-- an agent with these holders, no queue and this incarnation
+abbrev agent : Mode → List ℕ → ℕ → Agent
+agent m cs n = record { mode = m; holders = list cs; queue = queueOf []; incarnation = n }
+  where
+    list : List ℕ → List Bool
+    list [] = noHolders
+    list (c ∷ cs) = set (list cs) c true
+
+abbrev carrying : Message → Address → Bool → Agent → Packet
+carrying m t b a = record { message = m; to = t; rejected = b; carried = seated a }
+
+abbrev nowhere : List AgentSlot
+nowhere = replicate 4 noAgent
+
+abbrev on0 : Agent → List AgentSlot
+on0 a = set nowhere 0 (seated a)
+
+abbrev status : ℕ → Status → List ClientState → List ClientState
+status c st cs = set cs c (record { status = st })
+
+abbrev others : List ClientState
+others = replicate 16 idle
+
+abbrev lock : Decider → List AgentSlot → List ClientState → List Packet → LockState
+lock d slots cs ps = record { decider = d; agents = slots; clients = cs; wire = wireOf ps }
+
+-- lock 0 in this state, the others fresh
+abbrev with0 : LockState → Cluster
+with0 s = record { locks = s ∷ replicate 7 freshLock }
+
+abbrev from : LockState → List Call → List Answer → LockState → Scenario
+from s cs answers t = record { start = with0 s; calls = cs; result = record { answers = answers; cluster = with0 t } }
+
+abbrev ok : Answer
+ok = Accepted
+
+-- ---- the states that the scenarios reach
+abbrev firstAgent : Agent
+firstAgent = agent Shared (0 ∷ []) 0
+
+-- D1: decider shared, machine 0, incarnation 0.
+abbrev d1 : LockState
+d1 = lock (owned Shared 0 0) nowhere (status 0 (Waiting Shared) others) (carrying (Grant (client 0) Shared) (ToMachine (machine 0)) false (newAgent Shared) ∷ [])
+
+-- the listing after record 3: 0/0 holds
+abbrev d1-held : LockState
+d1-held = lock (owned Shared 0 0) (on0 firstAgent) (status 0 (Holding Shared) others) []
+
+abbrev grantTo1 : Packet
+grantTo1 = packet (Grant (client 4) Shared) (ToMachine (machine 1))
+
+abbrev markedTo0 : Packet
+markedTo0 = packet (Acquire (client 4) Shared true) (ToMachine (machine 0))
+
+-- D2: wire is GRANT to 1, marked ACQUIRE to 0; decider's incarnation 1.
+abbrev d2 : LockState
+d2 = lock (owned Shared 0 1) (on0 firstAgent) (status 4 (Waiting Shared) (status 0 (Holding Shared) others)) (grantTo1 ∷ markedTo0 ∷ [])
+
+abbrev waiting4 : List ClientState
+waiting4 = status 4 (Waiting Shared) others
+
+-- D3: FREE with incarnation 0 at place 2.
+abbrev d3 : LockState
+d3 = lock (owned Shared 0 1) nowhere waiting4 (grantTo1 ∷ markedTo0 ∷ carrying Free ToDecider false (agent Shared [] 0) ∷ [])
+
+-- D3: delivered, it is turned back to machine 0.
+abbrev d3-rejected : LockState
+d3-rejected = lock (owned Shared 0 1) nowhere waiting4 (grantTo1 ∷ markedTo0 ∷ carrying Free (ToMachine (machine 0)) true (agent Shared [] 0) ∷ [])
+
+-- D4: an agent on machine 0, no holders.
+abbrev d4 : LockState
+d4 = lock (owned Shared 0 1) (on0 (agent Shared [] 0)) waiting4 (grantTo1 ∷ markedTo0 ∷ [])
+
+-- D5: holder 1/0, agent's incarnation 1.
+abbrev d5 : LockState
+d5 = lock (owned Shared 0 1) (on0 (agent Shared (4 ∷ []) 1)) waiting4 (grantTo1 ∷ [])
+
+-- D6: the RELEASE is on its way back to the decider; 0/0 is still listed.
+abbrev d6 : LockState
+d6 = lock (owned Shared 0 1) (on0 firstAgent) (status 0 (Holding Shared) others) (markedTo0 ∷ packet (Release (client 4)) ToDecider ∷ [])
+
+-- D8: 0/0 holds exclusively, 1/0 queued exclusively
+abbrev d8-queued : LockState
+d8-queued =
+    lock (owned Exclusive 0 0)
+    (on0 (queue (record { client = client 4; mode = Exclusive } ∷ []) (agent Exclusive (0 ∷ []) 0)))
+    (status 4 (Waiting Exclusive) (status 0 (Holding Exclusive) others)) []
+
+-- D8: exclusive, machine 1.
+abbrev d8 : LockState
+d8 =
+    lock (owned Exclusive 1 0) nowhere (status 4 (Waiting Exclusive) others)
+    (carrying (Grant (client 4) Exclusive) (ToMachine (machine 1)) false (agent Exclusive [] 0) ∷ [])
+
+-- D9: incarnation 255 at decider and agent
+abbrev d9-start : LockState
+d9-start = lock (owned Shared 0 255) (on0 (agent Shared (0 ∷ []) 255)) (status 0 (Holding Shared) others) []
+
+-- D9: remote shared grant: 0.
+abbrev d9 : LockState
+d9 = lock (owned Shared 0 0) (on0 (agent Shared (0 ∷ []) 255)) (status 4 (Waiting Shared) (status 0 (Holding Shared) others)) (grantTo1 ∷ markedTo0 ∷ [])
+
+-- and 0 at the agent, once the marked ACQUIRE is there
+abbrev d9-agent : LockState
+d9-agent = lock (owned Shared 0 0) (on0 (agent Shared (4 ∷ 0 ∷ []) 0)) (status 4 (Waiting Shared) (status 0 (Holding Shared) others)) (grantTo1 ∷ [])
+
+-- ---- the tempting faults
+-- a marked ACQUIRE that comes back is not granted again: no incarnation, no second GRANT
+abbrev f-marked : LockState
+f-marked = lock (owned Shared 0 1) nowhere waiting4 (grantTo1 ∷ carrying Free ToDecider false (agent Shared [] 0) ∷ markedTo0 ∷ [])
+
+-- a local shared grant moves no incarnation
+abbrev f-local : LockState
+f-local = lock (owned Shared 0 0) (on0 (agent Shared (1 ∷ 0 ∷ []) 0)) (status 1 (Holding Shared) (status 0 (Holding Shared) others)) []
+
+-- an unmarked shared ACQUIRE at a shared agent
+abbrev f-unmarked : LockState
+f-unmarked =
+    lock (owned Shared 0 0) (on0 firstAgent) (status 4 (Waiting Shared) (status 0 (Holding Shared) others)) (packet (Acquire (client 4) Shared false) (ToMachine (machine 0)) ∷ [])
+
+-- adds a holder and sends a GRANT for it
+abbrev f-granted : LockState
+f-granted =
+    lock (owned Shared 0 0) (on0 (agent Shared (4 ∷ 0 ∷ []) 0)) (status 4 (Waiting Shared) (status 0 (Holding Shared) others)) (packet (Grant (client 4) Shared) ToDecider ∷ [])
+
+-- a rejected GRANT for 1/0, behind which 2/0 waits
+abbrev waits : ℕ → Waiter
+waits c = record { client = client c; mode = Exclusive }
+
+abbrev asking : List ClientState
+asking = status 8 (Waiting Exclusive) (status 4 (Waiting Exclusive) others)
+
+abbrev f-rejected : LockState
+f-rejected =
+    lock (owned Shared 0 1) nowhere asking (carrying (Grant (client 4) Exclusive) (ToMachine (machine 0)) true (queue (waits 8 ∷ []) (agent Shared [] 0)) ∷ [])
+
+-- has its waiter back at the queue's front
+abbrev f-requeued : LockState
+f-requeued = lock (owned Shared 0 1) (on0 (queue (waits 4 ∷ waits 8 ∷ []) (agent Shared [] 0))) asking []
+
+-- ---- the list, and the theorem
+unfoldable pub scenarios : List Scenario
+scenarios =
+    -- D1
+    from freshLock (acquires0 0 0 3 ∷ delivers0 0 ∷ []) (ok ∷ ok ∷ []) d1
+    ∷ from d1 (delivers0 0 ∷ []) (ok ∷ []) d1-held
+    -- D2
+    ∷ from d1-held (acquires0 1 0 3 ∷ delivers0 0 ∷ []) (ok ∷ ok ∷ []) d2
+    -- D3
+    ∷ from d2 (releases0 0 0 ∷ []) (ok ∷ []) d3
+    ∷ from d3 (delivers0 2 ∷ []) (ok ∷ []) d3-rejected
+    -- D4
+    ∷ from d3-rejected (delivers0 2 ∷ []) (ok ∷ []) d4
+    -- D5
+    ∷ from d4 (delivers0 1 ∷ []) (ok ∷ []) d5
+    -- D6
+    ∷ from d2 (delivers0 0 ∷ releases0 1 0 ∷ delivers0 1 ∷ delivers0 1 ∷ []) (ok ∷ ok ∷ ok ∷ ok ∷ []) d6
+    -- D7
+    ∷ from d6 (acquires0 1 0 3 ∷ []) (Refused StillNamed ∷ []) d6
+    -- D8
+    ∷ from freshLock (acquires0 0 0 2 ∷ delivers0 0 ∷ delivers0 0 ∷ acquires0 1 0 2 ∷ delivers0 0 ∷ delivers0 0 ∷ []) (ok ∷ ok ∷ ok ∷ ok ∷ ok ∷ ok ∷ []) d8-queued
+    ∷ from d8-queued (releases0 0 0 ∷ delivers0 0 ∷ []) (ok ∷ ok ∷ []) d8
+    -- D9
+    ∷ from d9-start (acquires0 1 0 3 ∷ delivers0 0 ∷ []) (ok ∷ ok ∷ []) d9
+    ∷ from d9 (delivers0 1 ∷ []) (ok ∷ []) d9-agent
+    -- D10
+    ∷ from freshLock (AcquireCall (on 8) (machine 0) (record { 0 = 0 }) 1 ∷ []) (Refused LockRange ∷ []) freshLock
+    -- the tempting faults
+    ∷ from d3 (delivers0 1 ∷ delivers0 2 ∷ []) (ok ∷ ok ∷ []) f-marked
+    ∷ from d1-held (acquires0 0 1 3 ∷ []) (ok ∷ []) f-local
+    ∷ from f-unmarked (delivers0 0 ∷ []) (ok ∷ []) f-granted
+    ∷ from f-rejected (delivers0 0 ∷ []) (ok ∷ []) f-requeued
+    ∷ []
+
+pub scenarios-hold : Hold scenarios
+unfolding scenarios answersOf run perform acquire release deliver unless settled first wellFormed lockFormed wireFormed packetFormed messageFormed slotFormed agentFormed isBlankAgent isBlankPacket isBlankWaiter queueFormed distinct shaped acquireStep releaseStep deliverStep finish delivers atDecider decides decidesAcquire decidesFree decidesGrant toOwner atMachine arrives acquired released returned marked unmarked granted installs admitted staying ofMode joined acquires asks releases leaves handOver padded removed queueOf waiters noAgent blankPacket wireOf packets freshLock
+scenarios-hold =
+    -- D1
+    (
+      refl,
+      (
+        refl,
+        -- D2
+        (
+          refl,
+          -- D3
+          (
+            refl,
+            (
+              refl,
+              -- D4
+              (
+                refl,
+                -- D5
+                (
+                  refl,
+                  -- D6
+                  (
+                    refl,
+                    -- D7
+                    (
+                      refl,
+                      -- D8
+                      (
+                        refl,
+                        (
+                          refl,
+                          -- D9
+                          (
+                            refl,
+                            (
+                              refl,
+                              -- D10
+                              (
+                                refl,
+                                -- the tempting faults
+                                (
+                                  refl,
+                                  (
+                                    refl,
+                                    (
+                                      refl,
+                                      (
+                                        refl,
+                                        tt,
+                                      ),
+                                    ),
+                                  ),
+                                ),
+                              ),
+                            ),
+                          ),
+                        ),
+                      ),
+                    ),
+                  ),
+                ),
+              ),
+            ),
+          ),
+        ),
+      ),
+    )

@@ -1,0 +1,1 @@
+// Theorems about the model's definitions alone. It has no code.

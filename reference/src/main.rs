@@ -1,0 +1,120 @@
+//! The command line of the reference program.
+
+use reference::random_runs::{random_run, Report, Tally, FIRST_RUN, LAST_RUN};
+use reference::random_states::{random_state, FIRST_STATE, LAST_STATE};
+use reference::random_transcripts::{
+    random_transcript, transcript_bytes, FIRST_TRANSCRIPT, LAST_TRANSCRIPT,
+};
+use reference::transcript::{listing, TRANSCRIPT_LIMIT};
+use std::io::{self, BufWriter, Read, Write};
+use std::ops::RangeInclusive;
+use std::process::ExitCode;
+
+const USAGE: &str = "usage: reference replay < TRANSCRIPT
+       reference runs|states|transcripts [SEED] [--each-step]
+       reference bytes SEED
+       reference counts";
+
+type RunSeed = fn(u64, &mut Report) -> io::Result<()>;
+
+const RUNS: (RunSeed, RangeInclusive<u64>) = (random_run, FIRST_RUN..=LAST_RUN);
+const STATES: (RunSeed, RangeInclusive<u64>) = (random_state, FIRST_STATE..=LAST_STATE);
+const TRANSCRIPTS: (RunSeed, RangeInclusive<u64>) =
+    (random_transcript, FIRST_TRANSCRIPT..=LAST_TRANSCRIPT);
+
+fn main() -> ExitCode {
+    let arguments: Vec<String> = std::env::args().skip(1).collect();
+    let words: Vec<&str> = arguments.iter().map(String::as_str).collect();
+    let mut out = BufWriter::new(io::stdout().lock());
+    let done = match words.as_slice() {
+        ["replay"] => replay(&mut out),
+        ["runs", options @ ..] => seeds(RUNS, options, &mut out),
+        ["states", options @ ..] => seeds(STATES, options, &mut out),
+        ["transcripts", options @ ..] => seeds(TRANSCRIPTS, options, &mut out),
+        ["bytes", seed] => bytes(seed, &mut out),
+        ["counts"] => counts(&mut out),
+        _ => Err(usage()),
+    };
+    match done.and_then(|()| out.flush()) {
+        Ok(()) => ExitCode::SUCCESS,
+        Err(error) => {
+            eprintln!("{error}");
+            ExitCode::FAILURE
+        }
+    }
+}
+
+fn usage() -> io::Error {
+    io::Error::new(io::ErrorKind::InvalidInput, USAGE)
+}
+
+fn replay(out: &mut dyn Write) -> io::Result<()> {
+    let mut transcript = Vec::new();
+    // One byte above the limit is enough to know that it is passed.
+    let limit = TRANSCRIPT_LIMIT as u64 + 1;
+    io::stdin().take(limit).read_to_end(&mut transcript)?;
+    out.write_all(listing(&transcript).as_bytes())
+}
+
+/// Runs all seeds, or the one that the options name.
+fn seeds(
+    (run, all): (RunSeed, RangeInclusive<u64>),
+    options: &[&str],
+    out: &mut dyn Write,
+) -> io::Result<()> {
+    let (seed, each_step) = match options {
+        [] => (None, false),
+        ["--each-step"] => (None, true),
+        [seed] => (Some(parse_seed(seed)?), false),
+        [seed, "--each-step"] | ["--each-step", seed] => (Some(parse_seed(seed)?), true),
+        _ => return Err(usage()),
+    };
+    let tally = Tally::default();
+    let mut report = Report {
+        out,
+        each_step,
+        tally,
+    };
+    for seed in seed.map_or(all, |seed| seed..=seed) {
+        run(seed, &mut report)?;
+    }
+    Ok(())
+}
+
+fn parse_seed(word: &str) -> io::Result<u64> {
+    word.parse().map_err(|_| usage())
+}
+
+fn bytes(seed: &str, out: &mut dyn Write) -> io::Result<()> {
+    out.write_all(&transcript_bytes(parse_seed(seed)?))
+}
+
+/// How often each kind of call met each answer.
+fn counts(out: &mut dyn Write) -> io::Result<()> {
+    let parts = [
+        ("runs", RUNS),
+        ("states", STATES),
+        ("transcripts", TRANSCRIPTS),
+    ];
+    let kinds = ["none", "acquire", "release", "deliver", "drain"];
+    for (name, (run, all)) in parts {
+        let tally = Tally::default();
+        let mut report = Report {
+            out: &mut io::sink(),
+            each_step: false,
+            tally,
+        };
+        for seed in all {
+            run(seed, &mut report)?;
+        }
+        for (kind, answers) in kinds.iter().zip(report.tally.answers) {
+            writeln!(out, "{name} {kind} {answers:?}")?;
+        }
+        let tally = report.tally;
+        let (steps, longest) = (tally.drain_steps, tally.longest_drain);
+        writeln!(out, "{name} drain steps {steps} longest {longest}")?;
+        writeln!(out, "{name} longest wire {}", tally.longest_wire)?;
+        writeln!(out, "{name} incarnation wraps {}", tally.incarnation_wraps)?;
+    }
+    Ok(())
+}

@@ -1,0 +1,248 @@
+//! Hand-made states, many of them malformed (docs/random-runs.md).
+
+use crate::generator::Generator;
+use crate::model::{
+    Address, Agent, ClientId, ClientStatus, Cluster, Decider, LockState, MachineId, Message, Mode,
+    Owner, Packet, Waiter, CLIENTS, LOCKS, MACHINES, QUEUE_CAPACITY, WIRE_CAPACITY,
+};
+use crate::random_runs::{Report, Run, HAND_MADE};
+use std::io;
+
+pub const FIRST_STATE: u64 = 1;
+pub const LAST_STATE: u64 = 4_000;
+
+const WIRE_LENGTHS: [usize; 16] = [0, 0, 1, 1, 1, 2, 2, 2, 3, 3, 4, 5, 6, 31, 32, 33];
+const QUEUE_LENGTHS: [usize; 8] = [0, 0, 0, 1, 2, 3, 15, 16];
+/// How many of sixteen clients hold the lock, about.
+const HOLDER_DENSITIES: [u64; 4] = [0, 1, 4, 12];
+
+/// The one way in which a drawn lock may be malformed.
+#[derive(Clone, Copy, PartialEq, Eq)]
+enum Fault {
+    None,
+    WaiterOutOfRange,
+    WaiterTwice,
+    QueueTooLong,
+    AddressOutOfRange,
+    ClientOutOfRange,
+    RejectedFlipped,
+    AgentFlipped,
+    AddressFlipped,
+    OwnerOutOfRange,
+    WireTooLong,
+    StaleAgentSlot,
+    StaleWireSlot,
+}
+
+impl Fault {
+    fn from_number(number: u64) -> Self {
+        match number {
+            1 => Fault::WaiterOutOfRange,
+            2 => Fault::WaiterTwice,
+            3 => Fault::QueueTooLong,
+            4 => Fault::AddressOutOfRange,
+            5 => Fault::ClientOutOfRange,
+            6 => Fault::RejectedFlipped,
+            7 => Fault::AgentFlipped,
+            8 => Fault::AddressFlipped,
+            9 => Fault::OwnerOutOfRange,
+            10 => Fault::WireTooLong,
+            11 => Fault::StaleAgentSlot,
+            12 => Fault::StaleWireSlot,
+            _ => Fault::None,
+        }
+    }
+}
+
+/// The fault that applies at one slot, and its number out of range.
+#[derive(Clone, Copy)]
+struct Flaw {
+    fault: Fault,
+    value: u8,
+}
+
+/// Runs one seed of `states`.
+pub fn random_state(seed: u64, report: &mut Report) -> io::Result<()> {
+    let mut generator = Generator::new(seed);
+    let cluster = hand_made_cluster(seed, &mut generator);
+    Run::new("state", seed, HAND_MADE, generator, cluster).finish(report)
+}
+
+/// One or two hand-made locks; the others are fresh.
+pub fn hand_made_cluster(seed: u64, generator: &mut Generator) -> Cluster {
+    let mut cluster = Cluster::new();
+    let first = seed as usize % LOCKS;
+    cluster.locks[first] = draw_lock(generator);
+    if seed / 8 % 2 == 1 {
+        cluster.locks[(first + 1) % LOCKS] = draw_lock(generator);
+    }
+    cluster
+}
+
+fn draw_lock(generator: &mut Generator) -> LockState {
+    let fault = Fault::from_number(generator.draw(24));
+    let value = generator.draw(239) as u8;
+    let drawn_length = WIRE_LENGTHS[generator.draw(16) as usize];
+    let too_long = fault == Fault::WireTooLong;
+    let packets = if too_long {
+        WIRE_CAPACITY
+    } else {
+        drawn_length
+    };
+    let target = generator.draw((MACHINES + packets) as u64) as usize;
+    let flaw_at = |slot: usize| {
+        let none = Fault::None;
+        let fault = if slot == target { fault } else { none };
+        Flaw { fault, value }
+    };
+    let mut lock = LockState {
+        stale_slot: fault == Fault::StaleWireSlot && packets < WIRE_CAPACITY,
+        ..LockState::default()
+    };
+    lock.decider = draw_decider(generator, Flaw { fault, value });
+    for machine in 0..MACHINES {
+        let likely = lock.decider.owner.map(|o| o.machine.index()) == Some(machine);
+        let present = generator.draw(8) < if likely { 6 } else { 1 };
+        let flaw = flaw_at(machine);
+        lock.agents[machine] = draw_agent(generator, present, flaw, &mut lock.stale_slot);
+    }
+    lock.clients = std::array::from_fn(|_| draw_status(generator));
+    for place in 0..packets {
+        let flaw = flaw_at(MACHINES + place);
+        let packet = draw_packet(generator, flaw, &mut lock.stale_slot);
+        lock.wire.push(packet);
+    }
+    if too_long {
+        let filler = lock.wire[0].clone();
+        lock.wire.resize(34 + usize::from(value % 222), filler);
+    }
+    lock
+}
+
+fn draw_decider(generator: &mut Generator, flaw: Flaw) -> Decider {
+    let mode = [None, Some(Mode::Exclusive), Some(Mode::Shared)][generator.draw(4).min(2) as usize];
+    let drawn = MachineId(generator.draw(4) as u8);
+    let machine = match flaw.fault {
+        Fault::OwnerOutOfRange => MachineId(4 + flaw.value),
+        _ => drawn,
+    };
+    Decider {
+        owner: mode.map(|mode| Owner { mode, machine }),
+        incarnation: draw_incarnation(generator),
+    }
+}
+
+/// 254, 255, 0 or 1, so that equal and wrapping ones are common.
+fn draw_incarnation(generator: &mut Generator) -> u8 {
+    ((254 + generator.draw(4)) % 256) as u8
+}
+
+fn draw_mode(generator: &mut Generator) -> Mode {
+    match generator.draw(2) {
+        0 => Mode::Exclusive,
+        _ => Mode::Shared,
+    }
+}
+
+fn draw_status(generator: &mut Generator) -> ClientStatus {
+    match generator.draw(8) {
+        4 => ClientStatus::Waiting(Mode::Exclusive),
+        5 => ClientStatus::Waiting(Mode::Shared),
+        6 => ClientStatus::Holding(Mode::Exclusive),
+        7 => ClientStatus::Holding(Mode::Shared),
+        _ => ClientStatus::Idle,
+    }
+}
+
+/// Draws an agent in any case, so that the number of draws is fixed.
+fn draw_agent(
+    generator: &mut Generator,
+    present: bool,
+    flaw: Flaw,
+    stale_slot: &mut bool,
+) -> Option<Agent> {
+    let mut agent = Agent::new(draw_mode(generator));
+    agent.incarnation = draw_incarnation(generator);
+    let density = HOLDER_DENSITIES[generator.draw(4) as usize];
+    for client in 0..CLIENTS as u8 {
+        if generator.draw(16) < density {
+            agent.holders.insert(ClientId(client));
+        }
+    }
+    let length = QUEUE_LENGTHS[generator.draw(8) as usize];
+    let first = generator.draw(16);
+    for place in 0..QUEUE_CAPACITY as u64 {
+        // An odd stride gives sixteen different clients.
+        let client = ClientId(((first + 5 * place) % 16) as u8);
+        let mode = draw_mode(generator);
+        agent.queue.push_back(Waiter { client, mode });
+    }
+    if flaw.fault == Fault::StaleAgentSlot && (!present || length < QUEUE_CAPACITY) {
+        *stale_slot = true;
+    }
+    shape_queue(&mut agent, length, flaw);
+    present.then_some(agent)
+}
+
+/// Cuts the queue to its length and applies the faults of queues.
+fn shape_queue(agent: &mut Agent, length: usize, flaw: Flaw) {
+    if flaw.fault == Fault::QueueTooLong {
+        let filler = agent.queue[0];
+        agent.queue.resize(17 + usize::from(flaw.value), filler);
+        return;
+    }
+    agent.queue.truncate(length);
+    if flaw.fault == Fault::WaiterOutOfRange && length >= 1 {
+        agent.queue[length - 1].client = ClientId(16 + flaw.value);
+    }
+    if flaw.fault == Fault::WaiterTwice && length >= 2 {
+        agent.queue[length - 1].client = agent.queue[0].client;
+    }
+}
+
+fn draw_packet(generator: &mut Generator, flaw: Flaw, stale_slot: &mut bool) -> Packet {
+    let kind = generator.draw(8);
+    let drawn_client = ClientId(generator.draw(16) as u8);
+    let client = match flaw.fault {
+        Fault::ClientOutOfRange => ClientId(16 + flaw.value),
+        _ => drawn_client,
+    };
+    let mode = draw_mode(generator);
+    let granted = generator.draw(4) == 0;
+    let address = generator.draw(8);
+    let carries = generator.draw(2) == 0;
+    let rejects = generator.draw(3) == 0;
+    let is_grant = (3..6).contains(&kind);
+    let is_free = kind == 7;
+    let may_carry = is_free || (is_grant && carries);
+    let present = may_carry != (flaw.fault == Fault::AgentFlipped);
+    let may_reject = may_carry && rejects;
+    let to_machine = may_reject || (!is_free && address >= 4);
+    Packet {
+        message: match kind {
+            0..=2 => Message::Acquire {
+                client,
+                mode,
+                granted,
+            },
+            3..=5 => Message::Grant { client, mode },
+            6 => Message::Release { client },
+            _ => Message::Free,
+        },
+        address: shape_address(to_machine, (address % 4) as u8, flaw),
+        rejected: may_reject != (flaw.fault == Fault::RejectedFlipped),
+        agent: draw_agent(generator, present, flaw, stale_slot),
+    }
+}
+
+/// The address with the faults of addresses.
+fn shape_address(to_machine: bool, machine: u8, flaw: Flaw) -> Address {
+    if flaw.fault == Fault::AddressOutOfRange {
+        return Address::Machine(MachineId(4 + flaw.value));
+    }
+    if to_machine != (flaw.fault == Fault::AddressFlipped) {
+        Address::Machine(MachineId(machine))
+    } else {
+        Address::Decider
+    }
+}
