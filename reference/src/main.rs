@@ -1,10 +1,11 @@
 //! The command line of the reference program.
 
-use reference::random_runs::{random_run, Report, Tally, FIRST_RUN, LAST_RUN};
+use reference::random_runs::{random_run, FIRST_RUN, LAST_RUN};
 use reference::random_states::{random_state, FIRST_STATE, LAST_STATE};
 use reference::random_transcripts::{
     random_transcript, transcript_bytes, FIRST_TRANSCRIPT, LAST_TRANSCRIPT,
 };
+use reference::report::{Report, KINDS};
 use reference::transcript::{listing, TRANSCRIPT_LIMIT};
 use std::io::{self, BufWriter, Read, Write};
 use std::ops::RangeInclusive;
@@ -69,12 +70,7 @@ fn seeds(
         [seed, "--each-step"] | ["--each-step", seed] => (Some(parse_seed(seed)?), true),
         _ => return Err(usage()),
     };
-    let tally = Tally::default();
-    let mut report = Report {
-        out,
-        each_step,
-        tally,
-    };
+    let mut report = Report::new(out, each_step);
     for seed in seed.map_or(all, |seed| seed..=seed) {
         run(seed, &mut report)?;
     }
@@ -89,32 +85,28 @@ fn bytes(seed: &str, out: &mut dyn Write) -> io::Result<()> {
     out.write_all(&transcript_bytes(parse_seed(seed)?))
 }
 
-/// How often each kind of call met each answer.
+/// How often each kind of call met each answer, from 0 to 14.
 fn counts(out: &mut dyn Write) -> io::Result<()> {
     let parts = [
         ("runs", RUNS),
         ("states", STATES),
         ("transcripts", TRANSCRIPTS),
     ];
-    let kinds = ["none", "acquire", "release", "deliver", "drain"];
     for (name, (run, all)) in parts {
-        let tally = Tally::default();
-        let mut report = Report {
-            out: &mut io::sink(),
-            each_step: false,
-            tally,
-        };
+        let mut nowhere = io::sink();
+        let mut report = Report::new(&mut nowhere, false);
         for seed in all {
             run(seed, &mut report)?;
         }
-        for (kind, answers) in kinds.iter().zip(report.tally.answers) {
+        let tally = report.tally;
+        for (kind, answers) in KINDS.iter().zip(tally.answers) {
             writeln!(out, "{name} {kind} {answers:?}")?;
         }
-        let tally = report.tally;
-        let (steps, longest) = (tally.drain_steps, tally.longest_drain);
-        writeln!(out, "{name} drain steps {steps} longest {longest}")?;
+        writeln!(out, "{name} drain steps {}", tally.drain_steps)?;
+        writeln!(out, "{name} longest drain {}", tally.longest_drain)?;
         writeln!(out, "{name} longest wire {}", tally.longest_wire)?;
         writeln!(out, "{name} incarnation wraps {}", tally.incarnation_wraps)?;
+        writeln!(out, "{name} malformed states {}", tally.malformed_states)?;
     }
     Ok(())
 }

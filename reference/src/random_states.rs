@@ -5,7 +5,9 @@ use crate::model::{
     Address, Agent, ClientId, ClientStatus, Cluster, Decider, LockState, MachineId, Message, Mode,
     Owner, Packet, Waiter, CLIENTS, LOCKS, MACHINES, QUEUE_CAPACITY, WIRE_CAPACITY,
 };
-use crate::random_runs::{Report, Run, HAND_MADE};
+use crate::random_calls::HAND_MADE;
+use crate::random_runs::Run;
+use crate::report::Report;
 use std::io;
 
 pub const FIRST_STATE: u64 = 1;
@@ -17,7 +19,7 @@ const QUEUE_LENGTHS: [usize; 8] = [0, 0, 0, 1, 2, 3, 15, 16];
 const HOLDER_DENSITIES: [u64; 4] = [0, 1, 4, 12];
 
 /// The one way in which a drawn lock may be malformed.
-#[derive(Clone, Copy, PartialEq, Eq)]
+#[derive(Clone, Copy, Debug, PartialEq, Eq)]
 enum Fault {
     None,
     WaiterOutOfRange,
@@ -28,50 +30,63 @@ enum Fault {
     RejectedFlipped,
     AgentFlipped,
     AddressFlipped,
+    StaleAgentSlot,
     OwnerOutOfRange,
     WireTooLong,
-    StaleAgentSlot,
     StaleWireSlot,
 }
 
-impl Fault {
-    fn from_number(number: u64) -> Self {
-        match number {
-            1 => Fault::WaiterOutOfRange,
-            2 => Fault::WaiterTwice,
-            3 => Fault::QueueTooLong,
-            4 => Fault::AddressOutOfRange,
-            5 => Fault::ClientOutOfRange,
-            6 => Fault::RejectedFlipped,
-            7 => Fault::AgentFlipped,
-            8 => Fault::AddressFlipped,
-            9 => Fault::OwnerOutOfRange,
-            10 => Fault::WireTooLong,
-            11 => Fault::StaleAgentSlot,
-            12 => Fault::StaleWireSlot,
-            _ => Fault::None,
-        }
-    }
-}
+/// The faults by their numbers; greater numbers are no faults.
+const FAULTS: [Fault; 13] = [
+    Fault::None,
+    Fault::WaiterOutOfRange,
+    Fault::WaiterTwice,
+    Fault::QueueTooLong,
+    Fault::AddressOutOfRange,
+    Fault::ClientOutOfRange,
+    Fault::RejectedFlipped,
+    Fault::AgentFlipped,
+    Fault::AddressFlipped,
+    Fault::StaleAgentSlot,
+    Fault::OwnerOutOfRange,
+    Fault::WireTooLong,
+    Fault::StaleWireSlot,
+];
 
-/// The fault that applies at one slot, and its number out of range.
+/// A fault, the number for what is out of range, and the slot that has it:
+/// 0 to 3 the agents of the machines, from 4 on the packets.
 #[derive(Clone, Copy)]
 struct Flaw {
     fault: Fault,
     value: u8,
+    target: usize,
+}
+
+impl Flaw {
+    /// The flaw as one slot has it.
+    fn at(self, slot: usize) -> Flaw {
+        match self.target == slot {
+            true => self,
+            false => Flaw {
+                fault: Fault::None,
+                ..self
+            },
+        }
+    }
 }
 
 /// Runs one seed of `states`.
 pub fn random_state(seed: u64, report: &mut Report) -> io::Result<()> {
     let mut generator = Generator::new(seed);
     let cluster = hand_made_cluster(seed, &mut generator);
+    report.tally.malformed_states += u64::from(!cluster.is_well_formed());
     Run::new("state", seed, HAND_MADE, generator, cluster).finish(report)
 }
 
 /// One or two hand-made locks; the others are fresh.
 pub fn hand_made_cluster(seed: u64, generator: &mut Generator) -> Cluster {
     let mut cluster = Cluster::new();
-    let first = seed as usize % LOCKS;
+    let first = (seed % LOCKS as u64) as usize;
     cluster.locks[first] = draw_lock(generator);
     if seed / 8 % 2 == 1 {
         cluster.locks[(first + 1) % LOCKS] = draw_lock(generator);
@@ -80,39 +95,32 @@ pub fn hand_made_cluster(seed: u64, generator: &mut Generator) -> Cluster {
 }
 
 fn draw_lock(generator: &mut Generator) -> LockState {
-    let fault = Fault::from_number(generator.draw(24));
+    let number = generator.draw(16) as usize;
+    let fault = FAULTS.get(number).copied().unwrap_or(Fault::None);
     let value = generator.draw(239) as u8;
-    let drawn_length = WIRE_LENGTHS[generator.draw(16) as usize];
-    let too_long = fault == Fault::WireTooLong;
-    let packets = if too_long {
-        WIRE_CAPACITY
-    } else {
-        drawn_length
+    let drawn = WIRE_LENGTHS[generator.draw(16) as usize];
+    let packets = match fault {
+        Fault::WireTooLong => WIRE_CAPACITY,
+        _ => drawn,
     };
     let target = generator.draw((MACHINES + packets) as u64) as usize;
-    let flaw_at = |slot: usize| {
-        let none = Fault::None;
-        let fault = if slot == target { fault } else { none };
-        Flaw { fault, value }
+    let flaw = Flaw {
+        fault,
+        value,
+        target,
     };
     let mut lock = LockState {
+        decider: draw_decider(generator, flaw),
         stale_slot: fault == Fault::StaleWireSlot && packets < WIRE_CAPACITY,
         ..LockState::default()
     };
-    lock.decider = draw_decider(generator, Flaw { fault, value });
-    for machine in 0..MACHINES {
-        let likely = lock.decider.owner.map(|o| o.machine.index()) == Some(machine);
-        let present = generator.draw(8) < if likely { 6 } else { 1 };
-        let flaw = flaw_at(machine);
-        lock.agents[machine] = draw_agent(generator, present, flaw, &mut lock.stale_slot);
-    }
+    draw_agents(generator, flaw, &mut lock);
     lock.clients = std::array::from_fn(|_| draw_status(generator));
     for place in 0..packets {
-        let flaw = flaw_at(MACHINES + place);
-        let packet = draw_packet(generator, flaw, &mut lock.stale_slot);
+        let packet = draw_packet(generator, flaw.at(MACHINES + place), &mut lock.stale_slot);
         lock.wire.push(packet);
     }
-    if too_long {
+    if fault == Fault::WireTooLong {
         let filler = lock.wire[0].clone();
         lock.wire.resize(34 + usize::from(value % 222), filler);
     }
@@ -120,15 +128,30 @@ fn draw_lock(generator: &mut Generator) -> LockState {
 }
 
 fn draw_decider(generator: &mut Generator, flaw: Flaw) -> Decider {
-    let mode = [None, Some(Mode::Exclusive), Some(Mode::Shared)][generator.draw(4).min(2) as usize];
-    let drawn = MachineId(generator.draw(4) as u8);
-    let machine = match flaw.fault {
-        Fault::OwnerOutOfRange => MachineId(4 + flaw.value),
-        _ => drawn,
+    let mode = match generator.draw(4) {
+        0 => None,
+        1 => Some(Mode::Exclusive),
+        _ => Some(Mode::Shared),
     };
+    let drawn = generator.draw(4) as u8;
+    let machine = MachineId(match flaw.fault {
+        Fault::OwnerOutOfRange => 4 + flaw.value,
+        _ => drawn,
+    });
     Decider {
         owner: mode.map(|mode| Owner { mode, machine }),
         incarnation: draw_incarnation(generator),
+    }
+}
+
+/// Mostly the machine of the decider has an agent.
+fn draw_agents(generator: &mut Generator, flaw: Flaw, lock: &mut LockState) {
+    let owner = lock.decider.owner.map(|owner| owner.machine.index());
+    for machine in 0..MACHINES {
+        let likely = owner == Some(machine);
+        let present = generator.draw(8) < if likely { 6 } else { 1 };
+        let flaw = flaw.at(machine);
+        lock.agents[machine] = draw_agent(generator, present, flaw, &mut lock.stale_slot);
     }
 }
 
@@ -146,8 +169,8 @@ fn draw_mode(generator: &mut Generator) -> Mode {
 
 fn draw_status(generator: &mut Generator) -> ClientStatus {
     match generator.draw(8) {
-        4 => ClientStatus::Waiting(Mode::Exclusive),
-        5 => ClientStatus::Waiting(Mode::Shared),
+        2 => ClientStatus::Waiting(Mode::Exclusive),
+        3 => ClientStatus::Waiting(Mode::Shared),
         6 => ClientStatus::Holding(Mode::Exclusive),
         7 => ClientStatus::Holding(Mode::Shared),
         _ => ClientStatus::Idle,
@@ -177,10 +200,9 @@ fn draw_agent(
         let mode = draw_mode(generator);
         agent.queue.push_back(Waiter { client, mode });
     }
-    if flaw.fault == Fault::StaleAgentSlot && (!present || length < QUEUE_CAPACITY) {
-        *stale_slot = true;
-    }
     shape_queue(&mut agent, length, flaw);
+    let has_unused_slot = !present || length < QUEUE_CAPACITY;
+    *stale_slot |= flaw.fault == Fault::StaleAgentSlot && has_unused_slot;
     present.then_some(agent)
 }
 
@@ -202,36 +224,41 @@ fn shape_queue(agent: &mut Agent, length: usize, flaw: Flaw) {
 
 fn draw_packet(generator: &mut Generator, flaw: Flaw, stale_slot: &mut bool) -> Packet {
     let kind = generator.draw(8);
-    let drawn_client = ClientId(generator.draw(16) as u8);
-    let client = match flaw.fault {
-        Fault::ClientOutOfRange => ClientId(16 + flaw.value),
-        _ => drawn_client,
-    };
-    let mode = draw_mode(generator);
-    let granted = generator.draw(4) == 0;
+    let message = draw_message(generator, kind, flaw);
     let address = generator.draw(8);
     let carries = generator.draw(2) == 0;
     let rejects = generator.draw(3) == 0;
-    let is_grant = (3..6).contains(&kind);
-    let is_free = kind == 7;
-    let may_carry = is_free || (is_grant && carries);
-    let present = may_carry != (flaw.fault == Fault::AgentFlipped);
-    let may_reject = may_carry && rejects;
-    let to_machine = may_reject || (!is_free && address >= 4);
+    let is_free = message == Message::Free;
+    let is_grant = matches!(message, Message::Grant { .. });
+    let has_agent = is_free || (is_grant && carries);
+    let rejected = has_agent && rejects;
+    let to_machine = rejected || (!is_free && address >= 4);
+    let present = has_agent != (flaw.fault == Fault::AgentFlipped);
     Packet {
-        message: match kind {
-            0..=2 => Message::Acquire {
-                client,
-                mode,
-                granted,
-            },
-            3..=5 => Message::Grant { client, mode },
-            6 => Message::Release { client },
-            _ => Message::Free,
-        },
+        message,
         address: shape_address(to_machine, (address % 4) as u8, flaw),
-        rejected: may_reject != (flaw.fault == Fault::RejectedFlipped),
+        rejected: rejected != (flaw.fault == Fault::RejectedFlipped),
         agent: draw_agent(generator, present, flaw, stale_slot),
+    }
+}
+
+fn draw_message(generator: &mut Generator, kind: u64, flaw: Flaw) -> Message {
+    let drawn = generator.draw(16) as u8;
+    let client = ClientId(match flaw.fault {
+        Fault::ClientOutOfRange => 16 + flaw.value,
+        _ => drawn,
+    });
+    let mode = draw_mode(generator);
+    let granted = generator.draw(4) == 0;
+    match kind {
+        0..=2 => Message::Acquire {
+            client,
+            mode,
+            granted,
+        },
+        3..=5 => Message::Grant { client, mode },
+        6 => Message::Release { client },
+        _ => Message::Free,
     }
 }
 

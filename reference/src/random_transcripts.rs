@@ -1,8 +1,11 @@
 //! Random transcripts, some of them damaged (docs/random-runs.md).
 
+use crate::answer::answer_number;
 use crate::digest::Digest;
 use crate::generator::Generator;
-use crate::random_runs::Report;
+use crate::model::Cluster;
+use crate::random_calls::{Call, Profile, ACQUIRE, RELEASE};
+use crate::report::Report;
 use crate::transcript::{listing, TRANSCRIPT_LIMIT};
 use std::io;
 
@@ -20,22 +23,23 @@ pub fn random_transcript(seed: u64, report: &mut Report) -> io::Result<()> {
     let text = listing(&bytes);
     let mut digest = Digest::new(seed);
     digest.bytes(text.as_bytes());
-    for line in text.lines().skip(1) {
-        let mut words = line.split(' ').skip(1);
-        let kind = words.next().and_then(|kind| kind.parse().ok()).unwrap_or(0);
-        let answer: usize = words.next().and_then(|a| a.parse().ok()).unwrap_or(0);
-        report.tally.answers[kind][answer] += 1;
-    }
+    count_answers(&bytes, report);
     if report.each_step {
         report.out.write_all(text.as_bytes())?;
     }
+    let (length, lines, digest) = (bytes.len(), text.lines().count(), digest.value());
     writeln!(
         report.out,
-        "transcript {seed} bytes {} lines {} digest {}",
-        bytes.len(),
-        text.lines().count(),
-        digest.value()
+        "transcript {seed} bytes {length} lines {lines} digest {digest}"
     )
+}
+
+fn count_answers(bytes: &[u8], report: &mut Report) {
+    let tally = &mut report.tally;
+    let whole = Cluster::new().run_transcript_with(bytes, |_, record, outcome, _| {
+        tally.count(record.kind() as u8, answer_number(&outcome));
+    });
+    tally.count(0, answer_number(&whole.answer));
 }
 
 /// The bytes of the transcript with this seed.
@@ -45,11 +49,15 @@ pub fn transcript_bytes(seed: u64) -> Vec<u8> {
     let damaged = generator.draw(2 * records + 2);
     let damage = generator.draw(6);
     let cut = generator.draw(16) as usize;
+    let profile = Profile::of_seed(seed);
+    let mut cluster = Cluster::new();
     let mut bytes = Vec::new();
     for number in 1..=records {
-        let outputs = generator.eight();
+        let call = profile.choose_call(seed, &generator.eight(), &cluster);
         let damage = (number == damaged).then_some(damage);
-        push_record(&outputs, damage, &mut bytes);
+        push_record(&call, damage, &mut bytes);
+        // The cluster moves on only to give the next record likely arguments.
+        let _ = call.perform(&mut cluster);
     }
     bytes.truncate(BUFFER);
     if cut < 8 {
@@ -58,13 +66,14 @@ pub fn transcript_bytes(seed: u64) -> Vec<u8> {
     bytes
 }
 
-fn push_record(outputs: &[u64; 8], damage: Option<u64>, bytes: &mut Vec<u8>) {
-    let (kind, arguments) = match outputs[2] % 8 {
-        0 | 1 => (1, 4),
-        2 | 3 => (2, 3),
-        _ => (3, 2),
+fn push_record(call: &Call, damage: Option<u64>, bytes: &mut Vec<u8>) {
+    let (lock, machine, task) = (call.lock.0, call.machine.0, call.task.0);
+    let values = match call.kind {
+        ACQUIRE | RELEASE => [lock, machine, task, call.mode],
+        _ => [lock, call.place, 0, 0],
     };
-    let length = 4 + arguments as u16;
+    let used = usize::from(5 - call.kind);
+    let (length, kind) = (4 + used as u16, u16::from(call.kind));
     let (length, kind) = match damage {
         Some(0) => (length, 0),
         Some(1) => (length, 4),
@@ -75,23 +84,6 @@ fn push_record(outputs: &[u64; 8], damage: Option<u64>, bytes: &mut Vec<u8>) {
         None => (length, kind),
     };
     bytes.extend_from_slice(&length.to_le_bytes());
-    bytes.extend_from_slice(&u16::to_le_bytes(kind));
-    let [lock, machine, task, mode, place] = draw_arguments(outputs);
-    let values = match arguments {
-        2 => [lock, place, 0, 0],
-        _ => [lock, machine, task, mode],
-    };
-    bytes.extend_from_slice(&values[..arguments]);
-}
-
-/// Lock, machine, task, mode and place; some of them wild.
-fn draw_arguments(outputs: &[u64; 8]) -> [u8; 5] {
-    let (bounds, least) = if outputs[1] % 32 == 0 {
-        ([10, 6, 6, 6, 41], 0)
-    } else {
-        ([2, 4, 2, 2, 3], 2)
-    };
-    let mut values: [u8; 5] = std::array::from_fn(|i| (outputs[3 + i] % bounds[i]) as u8);
-    values[3] += least;
-    values
+    bytes.extend_from_slice(&kind.to_le_bytes());
+    bytes.extend_from_slice(&values[..used]);
 }

@@ -1,0 +1,62 @@
+//! Where the lines of random runs go, and what was met on the way.
+
+use crate::model::{LockState, WIRE_CAPACITY};
+use std::io::Write;
+
+/// Kinds of calls: 0 a whole transcript, then acquire, release, deliver, drain.
+pub const KINDS: [&str; 5] = ["transcript", "acquire", "release", "deliver", "drain"];
+const ANSWERS: usize = 15;
+
+/// How often each kind of call met each answer, and some extremes.
+#[derive(Clone, Debug, Default)]
+pub struct Tally {
+    pub answers: [[u64; ANSWERS]; KINDS.len()],
+    pub drain_steps: u64,
+    pub longest_drain: u16,
+    pub longest_wire: usize,
+    pub incarnation_wraps: u64,
+    pub malformed_states: u64,
+}
+
+impl Tally {
+    pub fn count(&mut self, kind: u8, answer: u8) {
+        self.answers[usize::from(kind)][usize::from(answer)] += 1;
+    }
+
+    pub fn count_drain(&mut self, steps: u16) {
+        self.drain_steps += u64::from(steps);
+        self.longest_drain = self.longest_drain.max(steps);
+    }
+
+    /// Notes what a call did to a decider's incarnation and to a wire.
+    pub fn compare(&mut self, before: Option<&LockState>, after: Option<&LockState>) {
+        let (Some(before), Some(after)) = (before, after) else {
+            return;
+        };
+        let (old, new) = (before.decider.incarnation, after.decider.incarnation);
+        // Of all steps that change an incarnation only the shared grant adds a packet.
+        let is_grant = after.wire.len() > before.wire.len();
+        self.incarnation_wraps += u64::from(is_grant && old == 255 && new == 0);
+        if after.wire.len() <= WIRE_CAPACITY {
+            self.longest_wire = self.longest_wire.max(after.wire.len());
+        }
+    }
+}
+
+/// The lines of a run and its tally.
+pub struct Report<'a> {
+    pub out: &'a mut dyn Write,
+    pub each_step: bool,
+    pub tally: Tally,
+}
+
+impl<'a> Report<'a> {
+    pub fn new(out: &'a mut dyn Write, each_step: bool) -> Self {
+        let tally = Tally::default();
+        Report {
+            out,
+            each_step,
+            tally,
+        }
+    }
+}
