@@ -1,20 +1,21 @@
 -- What a well-formed state gives: wires and queues in their one form, blanks that are the blank values.
-use mathlib.Core.Path.{_≡_, refl, sym, ap, _∙_}
-use mathlib.Core.Bool.{Bool, true, false, _&&_, not, false≢true, true≢false}
-use mathlib.Core.List.{List, [], _∷_, _++_}
-use Prim.Native.Nat.{ℕ, zero, suc, _+_, _-_, _<_, _≤_}
+use mathlib.Core.Path.{_≡_, refl}
+use mathlib.Core.Bool.{Bool, true, false, _&&_, not, false≢true}
+use mathlib.Core.List.{List}
+use Prim.Native.Nat.{ℕ, _-_, _<_, _≤_}
 use native.Mathlib.Omega.{arith}
 use lib.ListN.{length, take, drop, getD, replicate, length-drop, take-append-drop}
 use lib.Seq.{length-take-le}
-use lib.Dec.{eqb, leb, ltb}
+use lib.Dec.{eqb, leb}
 use borrow.Author.Tests.{eqb-true, leb-true, not-true}
 use Rattle.model.specs.Lists.{all, padded, removed}
-use Rattle.laws.specs.Names.{MachineId, Mode, Exclusive, Shared, Address, ToDecider, ToMachine, Message, Free, Acquire, Grant, Release, Waiter, Queue, Agent, AgentSlot, Packet, Wire, LockState}
-use Rattle.model.specs.States.{blankPacket, blankWaiter, wireOf, packets, waiters, agentOn, noAgent, newAgent, queueOf, noHolders, isShared}
-use Rattle.model.specs.WellFormed.{shaped, isBlankWaiter, waiterInRange, distinct, queueFormed, agentFormed, isBlankAgent, slotBy, slotFormed, isFree, toDecider, isBlankPacket, messageFormed, addressInRange, packetFormed, wireFormed, ownerInRange, lockFormed}
+use Rattle.laws.specs.Names.{LockId, MachineId, Mode, Exclusive, Shared, Address, ToDecider, ToMachine, Message, Free, Acquire, Grant, Release, Waiter, Queue, Agent, AgentSlot, Packet, Wire, LockState, Cluster}
+use Rattle.model.specs.States.{blankPacket, blankWaiter, wireOf, packets, agentOn, noAgent, newAgent, queueOf, noHolders, isShared, freshLock, lockIn}
+use Rattle.model.specs.WellFormed.{shaped, isBlankWaiter, distinct, queueFormed, agentFormed, isBlankAgent, slotBy, slotFormed, isFree, toDecider, isBlankPacket, messageFormed, addressInRange, packetFormed, wireFormed, ownerInRange, lockFormed, wellFormed}
+use Rattle.model.specs.Calls.{packetAt}
 use Rattle.laws.specs.Tests.{and-left, and-right}
-use Rattle.laws.specs.Lists.{length-removed, all-at, all-same, Canonical}
-use Rattle.laws.specs.Shapes.{CanonicalWire, CanonicalQueue, canonical-wire, canonical-queue, length-packets}
+use Rattle.laws.specs.Lists.{length-removed, all-at, all-getD, all-same, Canonical}
+use Rattle.laws.specs.Shapes.{CanonicalWire, CanonicalQueue, canonical-wire, length-packets}
 
 pub record Ready (s : LockState) : Type 0 where
   pub wire : CanonicalWire (s .wire)
@@ -92,23 +93,46 @@ pub wire-canonical : (w : Wire) → wireFormed w ≡ true → CanonicalWire w
 unfolding wireFormed
 wire-canonical w e = shaped-canonical 33 isBlankPacket blankPacket packet-blank (w .slots) (w .len) (and-left (shaped 33 isBlankPacket (w .slots) (w .len)) _ e)
 
-blank-canonical : CanonicalQueue (newAgent Exclusive .queue)
-blank-canonical = canonical-queue [] (omega arith)
+-- ---- an agent of a well-formed slot, a blank one too
+pub record Fit (a : Agent) : Type 0 where
+  pub sixteen : length (a .holders) ≡ 16
+  pub queue : queueFormed (a .queue) ≡ true
 
-pub slot-canonical : (s : AgentSlot) → slotFormed s ≡ true → CanonicalQueue (s .agent .queue)
+pub new-fit : (m : Mode) → Fit (newAgent m)
+unfolding queueFormed queueOf shaped padded isBlankWaiter distinct
+new-fit m = record { sixteen = refl; queue = refl }
+
+pub fit : (x : AgentSlot) → slotFormed x ≡ true → Fit (x .agent)
 unfolding slotFormed agentFormed
-slot-canonical s e = go (s .present) e
+fit x e = go (x .present) e
   where
-    go : (b : Bool) → slotBy b (s .agent) ≡ true → CanonicalQueue (s .agent .queue)
-    go true e = queue-canonical (s .agent .queue) (and-right (eqb (length (s .agent .holders)) 16) _ e)
-    go false e = rw (agent-blank (s .agent) e) blank-canonical
+    go : (b : Bool) → slotBy b (x .agent) ≡ true → Fit (x .agent)
+    go true e =
+        record {
+          sixteen = eqb-true _ 16 (and-left (eqb (length (x .agent .holders)) 16) _ e);
+          queue = and-right (eqb (length (x .agent .holders)) 16) _ e;
+        }
+    go false e = rw (agent-blank (x .agent) e) (new-fit Exclusive)
 
--- an empty slot past the end is blank too
-slots-canonical : (xs : List AgentSlot) → all slotFormed xs ≡ true → (k : ℕ) → CanonicalQueue (getD xs k noAgent .agent .queue)
-unfolding noAgent
-slots-canonical [] e k = blank-canonical
-slots-canonical (x ∷ xs) e zero = slot-canonical x (and-left (slotFormed x) (all slotFormed xs) e)
-slots-canonical (x ∷ xs) e (suc k) = slots-canonical xs (and-right (slotFormed x) (all slotFormed xs) e) k
+pub slot-canonical : (x : AgentSlot) → slotFormed x ≡ true → CanonicalQueue (x .agent .queue)
+slot-canonical x e = queue-canonical (x .agent .queue) (fit x e .queue)
+
+pub no-agent-formed : slotFormed noAgent ≡ true
+unfolding slotFormed noAgent isBlankAgent queueOf shaped padded isBlankWaiter
+no-agent-formed = refl
+
+-- ---- the parts of a well-formed packet
+pub record Whole (p : Packet) : Type 0 where
+  pub message : messageFormed (p .message) (p .carried .present) (p .rejected) (p .to) ≡ true
+  pub address : addressInRange (p .to) ≡ true
+  pub carried : slotFormed (p .carried) ≡ true
+
+pub whole-packet : (p : Packet) → packetFormed p ≡ true → Whole p
+unfolding packetFormed
+whole-packet p e =
+    let m = messageFormed (p .message) (p .carried .present) (p .rejected) (p .to) in
+    let e1 = and-right m _ e in
+    record { message = and-left m _ e; address = and-left (addressInRange (p .to)) _ e1; carried = and-right (addressInRange (p .to)) _ e1 }
 
 -- ---- the parts of a well-formed lock
 pub record Parts (s : LockState) : Type 0 where
@@ -135,15 +159,26 @@ parts s e =
       packets = and-right (shaped 33 isBlankPacket (s .wire .slots) (s .wire .len)) _ w;
     }
 
+pub agent-on : {s : LockState} → Parts s → (k : MachineId) → slotFormed (agentOn s k) ≡ true
+agent-on {s} p k = all-getD slotFormed (s .agents) (k .0) noAgent (p .agents) no-agent-formed
+
+pub packet-at : {s : LockState} → Parts s → (i : ℕ) → i < length (packets (s .wire)) → Whole (packetAt s i)
+packet-at {s} p i h = whole-packet (packetAt s i) (all-at packetFormed (packets (s .wire)) i blankPacket (p .packets) h)
+
 pub ready : (s : LockState) → lockFormed s ≡ true → Ready s
-unfolding packetFormed
 ready s e =
     let p = parts s e in
     record {
       wire = wire-canonical (s .wire) (p .wire);
-      agents = λ k. slots-canonical (s .agents) (p .agents) (k .0);
-      carried = λ i h.
-          let q = getD (packets (s .wire)) i blankPacket in
-          let f : packetFormed q ≡ true = all-at packetFormed (packets (s .wire)) i blankPacket (p .packets) h in
-          slot-canonical (q .carried) (and-right (addressInRange (q .to)) _ (and-right (messageFormed (q .message) (q .carried .present) (q .rejected) (q .to)) _ f));
+      agents = λ k. slot-canonical (agentOn s k) (agent-on p k);
+      carried = λ i h. slot-canonical (packetAt s i .carried) (packet-at p i h .carried);
     }
+
+-- ---- the locks of a well-formed cluster
+pub eight : (x : Cluster) → wellFormed x ≡ true → length (x .locks) ≡ 8
+unfolding wellFormed
+eight x w = eqb-true _ 8 (and-left (eqb (length (x .locks)) 8) _ w)
+
+pub lock-formed : (x : Cluster) (l : LockId) → wellFormed x ≡ true → l .0 < 8 → lockFormed (lockIn x l) ≡ true
+unfolding wellFormed
+lock-formed x l w h = all-at lockFormed (x .locks) (l .0) freshLock (and-right (eqb (length (x .locks)) 8) _ w) (omega (arith, eight x w))

@@ -4,3 +4,7 @@ pub mod Tests
 pub mod Lists
 pub mod Shapes
 pub mod Formed
+pub mod Making
+pub mod Kept
+pub mod Opened
+pub mod Clusters

@@ -1,13 +1,13 @@
 -- Lists, lists in arrays, and tests over lists.
-use mathlib.Core.Path.{_≡_, refl, sym, ap, _∙_}
-use mathlib.Core.Bool.{Bool, true, false, _&&_}
+use mathlib.Core.Path.{_≡_, refl, ap}
+use mathlib.Core.Bool.{Bool, true, false}
 use mathlib.Core.List.{List, [], _∷_, _++_}
 use Prim.Native.Nat.{ℕ, zero, suc, _+_, _-_, _<_, _≤_}
 use native.Mathlib.Omega.{arith}
-use lib.ListN.{length, take, drop, getD, set, replicate, length-append, List·getD-append}
-use lib.Seq.{append-snoc, take-append-seam, set-append-seam, getD-take}
-use Rattle.model.specs.Lists.{all, padded, removed}
-use Rattle.laws.specs.Tests.{and-left, and-right, both}
+use lib.ListN.{length, take, drop, getD, set, replicate}
+use lib.Seq.{take-append-seam}
+use Rattle.model.specs.Lists.{any, all, padded, removed}
+use Rattle.laws.specs.Tests.{and-left, and-right, both, or-left, or-right, neither}
 
 module _ {A : Type 0} where
   -- past no end the default does not matter
@@ -64,6 +64,40 @@ module _ {A : Type 0} where
   pub all-same : (p : A → Bool) (z : A) → ((x : A) → p x ≡ true → x ≡ z) → (xs : List A) → all p xs ≡ true → xs ≡ replicate (length xs) z
   all-same p z f [] e = refl
   all-same p z f (x ∷ xs) e = rw (f x (and-left (p x) (all p xs) e), ← all-same p z f xs (and-right (p x) (all p xs) e))
+
+  -- ---- a test that holds of no element
+  pub none-end : (p : A → Bool) (xs : List A) (y : A) → any p xs ≡ false → p y ≡ false → any p (xs ++ y ∷ []) ≡ false
+  none-end p [] y e f = neither (p y) false f refl
+  none-end p (x ∷ xs) y e f = neither (p x) _ (or-left (p x) _ e) (none-end p xs y (or-right (p x) _ e) f)
+
+  -- ---- a list with some of its elements left out
+  pub data Sublist : List A → List A → Type 0 where
+    empty : Sublist [] []
+    kept : {x : A} {xs ys : List A} → Sublist xs ys → Sublist (x ∷ xs) (x ∷ ys)
+    left-out : {x : A} {xs ys : List A} → Sublist xs ys → Sublist xs (x ∷ ys)
+
+  pub whole : (xs : List A) → Sublist xs xs
+  whole [] = empty
+  whole (x ∷ xs) = kept (whole xs)
+
+  pub nothing : (xs : List A) → Sublist [] xs
+  nothing [] = empty
+  nothing (x ∷ xs) = left-out (nothing xs)
+
+  pub sublist-length : {xs ys : List A} → Sublist xs ys → length xs ≤ length ys
+  sublist-length empty = omega arith
+  sublist-length (kept s) = omega (arith, sublist-length s)
+  sublist-length (left-out s) = omega (arith, sublist-length s)
+
+  pub sublist-all : (p : A → Bool) {xs ys : List A} → Sublist xs ys → all p ys ≡ true → all p xs ≡ true
+  sublist-all p empty e = e
+  sublist-all p (kept {x} s) e = both (p x) _ (and-left (p x) _ e) (sublist-all p s (and-right (p x) _ e))
+  sublist-all p (left-out {x} s) e = sublist-all p s (and-right (p x) _ e)
+
+  pub sublist-none : (p : A → Bool) {xs ys : List A} → Sublist xs ys → any p ys ≡ false → any p xs ≡ false
+  sublist-none p empty e = e
+  sublist-none p (kept {x} s) e = neither (p x) _ (or-left (p x) _ e) (sublist-none p s (or-right (p x) _ e))
+  sublist-none p (left-out {x} s) e = sublist-none p s (or-right (p x) _ e)
 
   -- ---- slots and a length that hold a list in its one form
   pub record Canonical (n : ℕ) (z : A) (slots : List A) (len : ℕ) : Type 0 where

@@ -1,6 +1,6 @@
 -- Tests and choices: the parts of a conjunction, and a choice whose test is known.
-use mathlib.Core.Path.{_≡_, refl, sym}
-use mathlib.Core.Bool.{Bool, true, false, _&&_, _||_, not}
+use mathlib.Core.Path.{_≡_, refl}
+use mathlib.Core.Bool.{Bool, true, false, _&&_, _||_}
 use Rattle.model.specs.Lists.{pick}
 
 pub and-left : (a b : Bool) → (a && b) ≡ true → a ≡ true
@@ -21,6 +21,9 @@ or-left false b e = refl
 pub or-right : (a b : Bool) → (a || b) ≡ false → b ≡ false
 or-right true b e = cc
 or-right false b e = e
+
+pub neither : (a b : Bool) → a ≡ false → b ≡ false → (a || b) ≡ false
+neither a b p q = rw (p, q)
 
 -- a case analysis that keeps the equation
 pub bool-cases : (b : Bool) {P : Type 0} → (b ≡ true → P) → (b ≡ false → P) → P

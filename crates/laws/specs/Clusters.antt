@@ -1,0 +1,71 @@
+-- Every call keeps a cluster well formed, and so does every list of calls.
+use mathlib.Core.Path.{_≡_, refl, _∙_}
+use mathlib.Core.Bool.{true}
+use mathlib.Core.List.{List, [], _∷_}
+use Prim.Native.Nat.{_<_}
+use native.Mathlib.Decide.{ℕ-discrete}
+use native.Mathlib.Omega.{arith}
+use lib.ListN.{length, set, length-set}
+use lib.Dec.{eqb}
+use borrow.Author.Tests.{eq-eqb}
+use Rattle.laws.specs.Names.{LockId, LockState, Cluster, Call, Answer, Accepted, Refused}
+use Rattle.model.specs.States.{freshLock, fresh, lockIn}
+use Rattle.model.specs.WellFormed.{lockFormed, wellFormed}
+use Rattle.model.specs.Calls.{settled, perform, run}
+use Rattle.laws.specs.Tests.{and-right, both}
+use Rattle.laws.specs.Formed.{no-agent-formed, eight, lock-formed}
+use Rattle.laws.specs.Lists.{all-set, all-replicate}
+use Rattle.laws.specs.Making.{wire-formed}
+use Rattle.laws.specs.Kept.{acquire-formed, release-formed, deliver-formed}
+use Rattle.laws.specs.Opened.{lockOf, stepOf, outcomeOf, Allowed, may-acquire, may-release, may-deliver, Opened, denied, passed, opened, perform-elsewhere, perform-here}
+
+pub fresh-lock-formed : lockFormed freshLock ≡ true
+unfolding lockFormed freshLock
+fresh-lock-formed = rw no-agent-formed (wire-formed [] refl (omega arith))
+
+pub fresh-formed : wellFormed fresh ≡ true
+unfolding wellFormed fresh
+fresh-formed = all-replicate lockFormed 8 freshLock fresh-lock-formed
+
+-- the state of each lock after a call
+pub step-formed : (c : Call) (s : LockState) → Allowed c s → lockFormed s ≡ true → lockFormed (stepOf c s .state) ≡ true
+step-formed _ s (may-acquire {m = m} k t n i a) f = acquire-formed s _ _ (omega arith) f
+step-formed _ s (may-release k t n e) f = release-formed s _ (omega arith) f
+step-formed _ s (may-deliver {i = i} h) f = deliver-formed s i h f
+
+settled-formed : (a : Answer) (x : Cluster) (l : LockId) (s : LockState) → wellFormed x ≡ true → lockFormed s ≡ true → wellFormed (settled a x l s .cluster) ≡ true
+unfolding settled wellFormed
+settled-formed Accepted x l s w f =
+    both (eqb (length (set (x .locks) (l .0) s)) 8) _ (eq-eqb _ 8 (length-set (x .locks) (l .0) s ∙ eight x w))
+    (all-set lockFormed (x .locks) (l .0) s (and-right (eqb (length (x .locks)) 8) _ w) f)
+settled-formed (Refused r) x l s w f = w
+
+pub perform-formed : (c : Call) (x : Cluster) → wellFormed x ≡ true → wellFormed (perform c x .cluster) ≡ true
+perform-formed c x w = go (opened c x w)
+  where
+    go : Opened c x → wellFormed (perform c x .cluster) ≡ true
+    go (denied r m n e) = rw e w
+    go (passed h a e) = rw e (settled-formed _ x (lockOf c) _ w (step-formed c (lockIn x (lockOf c)) a (lock-formed x (lockOf c) w h)))
+
+pub run-formed : (cs : List Call) (x : Cluster) → wellFormed x ≡ true → wellFormed (run cs x) ≡ true
+unfolding run
+run-formed [] x w = w
+run-formed (c ∷ cs) x w = run-formed cs (perform c x .cluster) (perform-formed c x w)
+
+-- A fact of a lock's state that each allowed step keeps is kept, of every lock, by each call and each list of calls.
+module _ (P : LockState → Type 0) (step : (c : Call) (s : LockState) → Allowed c s → lockFormed s ≡ true → P s → P (stepOf c s .state)) where
+  pub perform-keeps : (c : Call) (x : Cluster) (j : LockId) → wellFormed x ≡ true → P (lockIn x j) → P (lockIn (perform c x .cluster) j)
+  perform-keeps c x j w p = go (opened c x w)
+    where
+      here : lockOf c .0 < 8 → Allowed c (lockIn x (lockOf c)) → perform c x ≡ outcomeOf c x → Dec (j .0 ≡ lockOf c .0) → P (lockIn (perform c x .cluster) j)
+      here h a e (yes q) = rw (q, perform-here c x w h e) (step c (lockIn x (lockOf c)) a (lock-formed x (lockOf c) w h) (rw q at p))
+      here h a e (no n) = rw (perform-elsewhere c x j n) p
+
+      go : Opened c x → P (lockIn (perform c x .cluster) j)
+      go (denied r m n e) = rw e p
+      go (passed h a e) = here h a e (ℕ-discrete (j .0) (lockOf c .0))
+
+  pub run-keeps : (cs : List Call) (x : Cluster) (j : LockId) → wellFormed x ≡ true → P (lockIn x j) → P (lockIn (run cs x) j)
+  unfolding run
+  run-keeps [] x j w p = p
+  run-keeps (c ∷ cs) x j w p = run-keeps cs (perform c x .cluster) j (perform-formed c x w) (perform-keeps c x j w p)

@@ -1,0 +1,124 @@
+-- What makes a queue, an agent, a packet and a wire well formed.
+use mathlib.Core.Path.{_≡_, refl, sym}
+use mathlib.Core.Bool.{Bool, true, false, not}
+use mathlib.Core.List.{List, [], _∷_, _++_}
+use Prim.Native.Nat.{ℕ, _-_, _<_, _≤_}
+use native.Mathlib.Omega.{arith}
+use lib.ListN.{length, take, replicate, length-append, length-replicate, length-set, set}
+use lib.Seq.{drop-append-seam}
+use lib.Dec.{eqb, leb}
+use borrow.Author.Tests.{eqb-false, ltb-true, lt-ltb, le-leb, eq-eqb, ne-eqb, not-true}
+use Rattle.model.specs.Lists.{any, all, padded}
+use Rattle.laws.specs.Names.{ClientId, Address, Message, Waiter, Queue, Agent, Packet}
+use Rattle.model.specs.States.{blankWaiter, blankPacket, queueOf, waiters, wireOf, seated, noAgent, packet, machineOf}
+use Rattle.model.specs.WellFormed.{clientInRange, machineInRange, addressInRange, shaped, isBlankWaiter, isClient, distinct, waiterInRange, queueFormed, agentFormed, isBlankAgent, slotFormed, messageFormed, packetFormed, isBlankPacket, wireFormed}
+use Rattle.model.specs.Asking.{changed}
+use Rattle.laws.specs.Tests.{and-left, and-right, both, or-left, or-right}
+use Rattle.laws.specs.Lists.{take-padded, all-append, all-replicate, none-end, Sublist, empty, kept, left-out, sublist-length, sublist-all, sublist-none}
+use Rattle.laws.specs.Formed.{queue-canonical, Fit, no-agent-formed, Whole}
+
+pub machine-in-range : (c : ClientId) → clientInRange c ≡ true → machineInRange (machineOf c) ≡ true
+machine-in-range c h = lt-ltb (machineOf c .0) 4 (omega (arith, ltb-true (c .0) 16 h))
+
+pub shaped-padded : {A : Type 0} (n : ℕ) (p : A → Bool) (z : A) → p z ≡ true → (xs : List A) → length xs ≤ n → shaped n p (padded n z xs) (length xs) ≡ true
+unfolding shaped padded
+shaped-padded n p z e xs h =
+    let l : length (xs ++ replicate (n - length xs) z) ≡ n = omega (arith, length-append xs (replicate (n - length xs) z), length-replicate (n - length xs) z) in
+    both (eqb (length (xs ++ replicate (n - length xs) z)) n) _ (eq-eqb _ n l)
+    (both (leb (length xs) n) _ (le-leb _ n h) (rw (drop-append-seam xs (replicate (n - length xs) z)) (all-replicate p (n - length xs) z e)))
+
+-- ---- no client twice
+first-new : (w : Waiter) (ws : List Waiter) → distinct (w ∷ ws) ≡ true → any (isClient (w .client)) ws ≡ false
+unfolding distinct
+first-new w ws d = not-true _ (and-left (not (any (isClient (w .client)) ws)) _ d)
+
+rest-distinct : (w : Waiter) (ws : List Waiter) → distinct (w ∷ ws) ≡ true → distinct ws ≡ true
+unfolding distinct
+rest-distinct w ws d = and-right (not (any (isClient (w .client)) ws)) _ d
+
+distinct-front : (w : Waiter) (ws : List Waiter) → any (isClient (w .client)) ws ≡ false → distinct ws ≡ true → distinct (w ∷ ws) ≡ true
+unfolding distinct
+distinct-front w ws e d = rw e d
+
+distinct-end : (ws : List Waiter) (w : Waiter) → any (isClient (w .client)) ws ≡ false → distinct ws ≡ true → distinct (ws ++ w ∷ []) ≡ true
+unfolding distinct
+distinct-end [] w e d = refl
+distinct-end (v ∷ ws) w e d =
+    let v≢w : eqb (w .client .0) (v .client .0) ≡ false = ne-eqb _ _ (λ q. eqb-false (v .client .0) (w .client .0) (or-left (isClient (w .client) v) _ e) (sym q)) in
+    distinct-front v (ws ++ w ∷ []) (none-end (isClient (v .client)) ws w (first-new v ws d) v≢w)
+    (distinct-end ws w (or-right (isClient (w .client) v) _ e) (rest-distinct v ws d))
+
+distinct-sublist : {vs ws : List Waiter} → Sublist vs ws → distinct ws ≡ true → distinct vs ≡ true
+distinct-sublist empty d = d
+distinct-sublist (kept {x = w} {xs = vs} {ys = ws} s) d =
+    distinct-front w vs (sublist-none (isClient (w .client)) s (first-new w ws d)) (distinct-sublist s (rest-distinct w ws d))
+distinct-sublist (left-out {x = w} {ys = ws} s) d = distinct-sublist s (rest-distinct w ws d)
+
+-- ---- what a queue may hold
+pub record Line (ws : List Waiter) : Type 0 where
+  pub short : length ws ≤ 16
+  pub ranged : all waiterInRange ws ≡ true
+  pub once : distinct ws ≡ true
+
+pub line : (q : Queue) → queueFormed q ≡ true → Line (waiters q)
+unfolding queueFormed waiters
+line q e =
+    let c = queue-canonical q e in
+    let e1 = and-right (shaped 16 isBlankWaiter (q .slots) (q .len)) _ e in
+    record {
+      short = omega (arith, c .size, c .short);
+      ranged = and-left (all waiterInRange (take (q .len) (q .slots))) _ e1;
+      once = and-right (all waiterInRange (take (q .len) (q .slots))) _ e1;
+    }
+
+pub queue-formed : {ws : List Waiter} → Line ws → queueFormed (queueOf ws) ≡ true
+unfolding queueFormed queueOf isBlankWaiter
+queue-formed {ws} l =
+    both (shaped 16 isBlankWaiter (padded 16 blankWaiter ws) (length ws)) _ (shaped-padded 16 isBlankWaiter blankWaiter refl ws (l .short))
+    (rw (take-padded 16 blankWaiter ws) (both (all waiterInRange ws) _ (l .ranged) (l .once)))
+
+pub line-sublist : {vs ws : List Waiter} → Sublist vs ws → Line ws → Line vs
+line-sublist s l =
+    record { short = omega (arith, sublist-length s); ranged = sublist-all waiterInRange s (l .ranged); once = distinct-sublist s (l .once) }
+
+-- one more waiter, at the end or in front
+module _ {ws : List Waiter} (l : Line ws) (w : Waiter) (h : waiterInRange w ≡ true) (new : any (isClient (w .client)) ws ≡ false) (room : length ws < 16) where
+  pub line-end : Line (ws ++ w ∷ [])
+  line-end =
+      record {
+        short = omega (arith, length-append ws (w ∷ []));
+        ranged = all-append waiterInRange ws (w ∷ []) (l .ranged) (both (waiterInRange w) true h refl);
+        once = distinct-end ws w new (l .once);
+      }
+
+  pub line-front : Line (w ∷ ws)
+  line-front = record { short = omega arith; ranged = both (waiterInRange w) _ h (l .ranged); once = distinct-front w ws new (l .once) }
+
+-- ---- an agent
+pub seated-formed : {a : Agent} → Fit a → slotFormed (seated a) ≡ true
+unfolding slotFormed agentFormed
+seated-formed {a} f = both (eqb (length (a .holders)) 16) _ (eq-eqb _ 16 (f .sixteen)) (f .queue)
+
+-- one holder more or less
+pub fit-holder : {a : Agent} → Fit a → (i : ℕ) (b : Bool) (n : ℕ) → Fit (changed a (set (a .holders) i b) (a .queue) n)
+fit-holder {a} f i b n = record { sixteen = omega (arith, f .sixteen, length-set (a .holders) i b); queue = f .queue }
+
+-- ---- a packet
+pub packet-formed : {p : Packet} → Whole p → packetFormed p ≡ true
+unfolding packetFormed
+packet-formed {p} w = rw (w .message, w .address, w .carried)
+
+-- with no agent, not rejected
+pub plain : (m : Message) (t : Address) → messageFormed m false false t ≡ true → addressInRange t ≡ true → Whole (packet m t)
+unfolding noAgent
+plain m t e h = record { message = e; address = h; carried = no-agent-formed }
+
+blank-packet : isBlankPacket blankPacket ≡ true
+unfolding isBlankPacket blankPacket noAgent isBlankAgent queueOf shaped padded isBlankWaiter
+blank-packet = refl
+
+pub wire-formed : (ps : List Packet) → all packetFormed ps ≡ true → length ps ≤ 33 → wireFormed (wireOf ps) ≡ true
+unfolding wireFormed wireOf
+wire-formed ps e h =
+    both (shaped 33 isBlankPacket (padded 33 blankPacket ps) (length ps)) _ (shaped-padded 33 isBlankPacket blankPacket blank-packet ps h)
+    (rw (take-padded 33 blankPacket ps) e)

@@ -1,0 +1,156 @@
+-- A call on a well-formed cluster, opened: refused by a test, or every test passed and the call is its step on one lock.
+use mathlib.Core.Path.{_≡_, refl, sym, _∙_}
+use mathlib.Core.Bool.{Bool, true, false, _&&_, _||_, not, true≢false}
+use mathlib.Core.List.{List, [], _∷_}
+use Prim.Native.Nat.{ℕ, _+_, _<_, _≤_}
+use lib.ListN.{length}
+use lib.Seq.{getD-set-same, getD-set-other}
+use lib.Dec.{eqb, leb}
+use borrow.Author.Tests.{eqb-true, leb-true, leb-false, not-false}
+use Rattle.model.specs.Lists.{pick, any, all, removed}
+use Rattle.laws.specs.Names.{LockId, MachineId, TaskId, Mode, Exclusive, Shared, Packet, Status, Idle, Waiting, Holding, LockState, Cluster, Call, AcquireCall, ReleaseCall, DeliverCall, Refusal, Malformed, WireFull, Answer, Accepted, Refused, Stepped, Outcome}
+use Rattle.model.specs.States.{clientOf, modeOf, modeNumber, statusOf, packets, lockIn, freshLock}
+use Rattle.model.specs.WellFormed.{wellFormed}
+use Rattle.model.specs.Changes.{Verdict, cannot-place, does, apply, accepted, refused, finish}
+use Rattle.model.specs.Asking.{acquires, releases}
+use Rattle.model.specs.Refusals.{refusalNumber, Cause, _when_, first}
+use Rattle.model.specs.Calls.{isIdle, isHolding, names, delivers, packetAt, acquireStep, releaseStep, deliverStep, acquireCauses, releaseCauses, deliverCauses, refusing, settled, unless, acquire, release, deliver, perform}
+use Rattle.laws.specs.Tests.{and-left, and-right}
+use Rattle.laws.specs.Formed.{eight}
+
+-- ---- a call's lock, and its step on that lock's state
+abbrev pub lockOf : Call → LockId
+lockOf (AcquireCall l k t m) = l
+lockOf (ReleaseCall l k t) = l
+lockOf (DeliverCall l i) = l
+
+abbrev pub stepOf : Call → LockState → Stepped
+stepOf (AcquireCall l k t m) s = acquireStep s (clientOf k t) (modeOf m)
+stepOf (ReleaseCall l k t) s = releaseStep s (clientOf k t)
+stepOf (DeliverCall l i) s = deliverStep s i
+
+-- the step's outcome, put back into the cluster
+abbrev pub outcomeOf : Call → Cluster → Outcome
+outcomeOf c x = settled (stepOf c (lockIn x (lockOf c)) .answer) x (lockOf c) (stepOf c (lockIn x (lockOf c)) .state)
+
+-- what the passed tests say of the lock's state
+pub data Allowed : Call → LockState → Type 0 where
+  may-acquire : {l : LockId} {k : MachineId} {t : TaskId} {m : ℕ} {s : LockState} → k .0 < 4 → t .0 < 4 → modeNumber (modeOf m) ≡ m
+      → statusOf s (clientOf k t) ≡ Idle → any (names (clientOf k t)) (packets (s .wire)) ≡ false → Allowed (AcquireCall l k t m) s
+  may-release : {l : LockId} {k : MachineId} {t : TaskId} {s : LockState} → k .0 < 4 → t .0 < 4 → (n : Mode) → statusOf s (clientOf k t) ≡ Holding n
+      → Allowed (ReleaseCall l k t) s
+  may-deliver : {l : LockId} {i : ℕ} {s : LockState} → i < length (packets (s .wire)) → Allowed (DeliverCall l i) s
+
+pub data Opened (c : Call) (x : Cluster) : Type 0 where
+  denied : (r : Refusal) → 1 ≤ refusalNumber r → refusalNumber r ≤ 8 → perform c x ≡ refusing r x → Opened c x
+  passed : lockOf c .0 < 8 → Allowed c (lockIn x (lockOf c)) → perform c x ≡ outcomeOf c x → Opened c x
+
+-- ---- the first cause that holds
+abbrev NoneHolds : List Cause → Type 0
+NoneHolds [] = Unit {0}
+NoneHolds ((r when b) ∷ cs) = (b ≡ false) × NoneHolds cs
+
+-- refusals 1 to 8
+abbrev early : Cause → Bool
+early (r when b) = leb 1 (refusalNumber r) && leb (refusalNumber r) 8
+
+data Tested (cs : List Cause) : Type 0 where
+  stops : (r : Refusal) → early (r when true) ≡ true → first cs ≡ Refused r → Tested cs
+  goes-on : NoneHolds cs → first cs ≡ Accepted → Tested cs
+
+tested : (cs : List Cause) → all early cs ≡ true → Tested cs
+unfolding first
+tested [] e = goes-on tt refl
+tested ((r when true) ∷ cs) e = stops r (and-left (early (r when true)) _ e) refl
+tested ((r when false) ∷ cs) e = go (tested cs (and-right (early (r when false)) _ e))
+  where
+    go : Tested cs → Tested ((r when false) ∷ cs)
+    go (stops q h f) = stops q h f
+    go (goes-on n f) = goes-on (refl, n) f
+
+-- with every cause false, the call is its step
+opened-by : (c : Call) (x : Cluster) (cs : List Cause) → wellFormed x ≡ true → all early cs ≡ true
+    → perform c x ≡ unless (first ((Malformed when not (wellFormed x)) ∷ cs)) x (lockOf c) (stepOf c (lockIn x (lockOf c)))
+    → (NoneHolds cs → (lockOf c .0 < 8) × Allowed c (lockIn x (lockOf c))) → Opened c x
+unfolding first unless
+opened-by c x cs w e q g = go (tested cs e)
+  where
+    go : Tested cs → Opened c x
+    go (stops r h f) = denied r (leb-true 1 _ (and-left (leb 1 (refusalNumber r)) _ h)) (leb-true _ 8 (and-right (leb 1 (refusalNumber r)) _ h)) (q ∙ rw (w, f))
+    go (goes-on n f) = passed (g n .0) (g n .1) (q ∙ rw (w, f))
+
+is-idle : (st : Status) → not (isIdle st) ≡ false → st ≡ Idle
+is-idle Idle e = refl
+is-idle (Waiting m) e = absurd (true≢false e)
+is-idle (Holding m) e = absurd (true≢false e)
+
+is-holding : (st : Status) → not (isHolding st) ≡ false → (n : Mode) × (st ≡ Holding n)
+is-holding Idle e = absurd (true≢false e)
+is-holding (Waiting m) e = absurd (true≢false e)
+is-holding (Holding m) e = (m, refl)
+
+mode-number : (m : ℕ) → not (eqb m 2 || eqb m 3) ≡ false → modeNumber (modeOf m) ≡ m
+mode-number m e = go (eqb m 2) refl (not-false (eqb m 2 || eqb m 3) e)
+  where
+    go : (b : Bool) → eqb m 2 ≡ b → (b || eqb m 3) ≡ true → modeNumber (pick b Exclusive Shared) ≡ m
+    go true e2 h = sym (eqb-true m 2 e2)
+    go false e2 h = sym (eqb-true m 3 h)
+
+pub opened : (c : Call) (x : Cluster) → wellFormed x ≡ true → Opened c x
+unfolding perform acquire release deliver
+opened (AcquireCall l k t m) x w =
+    opened-by (AcquireCall l k t m) x _ w refl refl (λ n. (
+      leb-false 8 _ (n .0),
+      may-acquire (leb-false 4 _ (n .1 .0)) (leb-false 4 _ (n .1 .1 .0)) (mode-number m (n .1 .1 .1 .0))
+          (is-idle _ (n .1 .1 .1 .1 .0)) (n .1 .1 .1 .1 .1 .0),
+    ))
+opened (ReleaseCall l k t) x w =
+    opened-by (ReleaseCall l k t) x _ w refl refl (λ n.
+    let h = is-holding _ (n .1 .1 .1 .0) in
+    (leb-false 8 _ (n .0), may-release (leb-false 4 _ (n .1 .0)) (leb-false 4 _ (n .1 .1 .0)) (h .0) (h .1)))
+opened (DeliverCall l i) x w = opened-by (DeliverCall l i) x _ w refl refl (λ n. (leb-false 8 _ (n .0), may-deliver (leb-false _ i (n .1 .0))))
+
+-- ---- the frame: of other locks, and of the call's own
+settled-elsewhere : (a : Answer) (x : Cluster) (l : LockId) (s : LockState) (j : LockId) → (j .0 ≡ l .0 → ⊥) → lockIn (settled a x l s .cluster) j ≡ lockIn x j
+unfolding settled
+settled-elsewhere Accepted x l s j n = getD-set-other (x .locks) (l .0) (j .0) s freshLock n
+settled-elsewhere (Refused r) x l s j n = refl
+
+unless-elsewhere : (a : Answer) (x : Cluster) (l : LockId) (s : Stepped) (j : LockId) → (j .0 ≡ l .0 → ⊥) → lockIn (unless a x l s .cluster) j ≡ lockIn x j
+unfolding unless
+unless-elsewhere Accepted x l s j n = settled-elsewhere (s .answer) x l (s .state) j n
+unless-elsewhere (Refused r) x l s j n = refl
+
+pub perform-elsewhere : (c : Call) (x : Cluster) (j : LockId) → (j .0 ≡ lockOf c .0 → ⊥) → lockIn (perform c x .cluster) j ≡ lockIn x j
+unfolding perform acquire release deliver
+perform-elsewhere (AcquireCall l k t m) x j n = unless-elsewhere (first (acquireCauses x l k t m)) x l _ j n
+perform-elsewhere (ReleaseCall l k t) x j n = unless-elsewhere (first (releaseCauses x l k t)) x l _ j n
+perform-elsewhere (DeliverCall l i) x j n = unless-elsewhere (first (deliverCauses x l i)) x l _ j n
+
+-- a refused step leaves the state as it was
+finish-refused : (v : Verdict) (rest : List Packet) (s : LockState) (r : Refusal) → finish v rest s .answer ≡ Refused r → finish v rest s .state ≡ s
+unfolding finish
+finish-refused cannot-place rest s r e = refl
+finish-refused (does ch) rest s r e = go (leb (length rest + length (ch .sends)) 33) e
+  where
+    go : (b : Bool) → pick b (accepted (apply ch rest s)) (refused WireFull s) .answer ≡ Refused r → pick b (accepted (apply ch rest s)) (refused WireFull s) .state ≡ s
+    go true e = cc
+    go false e = refl
+
+pub step-refused : (c : Call) (s : LockState) (r : Refusal) → stepOf c s .answer ≡ Refused r → stepOf c s .state ≡ s
+unfolding acquireStep releaseStep deliverStep
+step-refused (AcquireCall l k t m) s r e = finish-refused (acquires s (clientOf k t) (modeOf m)) (packets (s .wire)) s r e
+step-refused (ReleaseCall l k t) s r e = finish-refused (releases s (clientOf k t)) (packets (s .wire)) s r e
+step-refused (DeliverCall l i) s r e = finish-refused (delivers (packetAt s i .to) s (packetAt s i)) (removed (packets (s .wire)) i) s r e
+
+outcome-here : (c : Call) (x : Cluster) → lockOf c .0 < length (x .locks) → lockIn (outcomeOf c x .cluster) (lockOf c) ≡ stepOf c (lockIn x (lockOf c)) .state
+unfolding settled
+outcome-here c x h = go (stepOf c (lockIn x (lockOf c)) .answer) refl
+  where
+    go : (a : Answer) → stepOf c (lockIn x (lockOf c)) .answer ≡ a → lockIn (settled a x (lockOf c) (stepOf c (lockIn x (lockOf c)) .state) .cluster) (lockOf c) ≡ stepOf c (lockIn x (lockOf c)) .state
+    go Accepted e = getD-set-same (x .locks) (lockOf c .0) _ freshLock h
+    go (Refused r) e = sym (step-refused c (lockIn x (lockOf c)) r e)
+
+pub perform-here : (c : Call) (x : Cluster) → wellFormed x ≡ true → lockOf c .0 < 8 → perform c x ≡ outcomeOf c x
+    → lockIn (perform c x .cluster) (lockOf c) ≡ stepOf c (lockIn x (lockOf c)) .state
+perform-here c x w h e = rw e (outcome-here c x (rw (eight x w) h))
