@@ -1,5 +1,5 @@
--- Well-formedness is not vacuous: the fresh cluster is well formed, and for each bound of document 01 a state that differs from a
--- well-formed one in that alone is refused.
+-- Well-formedness is not vacuous: the fresh cluster is well formed (`fresh-formed`, laws/specs/Clusters.antt), and for each bound of
+-- document 01 a state that differs from a well-formed one in that alone is refused.
 use mathlib.Core.Path.{_≡_, refl}
 use mathlib.Core.Bool.{Bool, true, false}
 use mathlib.Core.List.{List, [], _∷_}
@@ -7,8 +7,8 @@ use Prim.Native.Nat.{ℕ}
 use lib.ListN.{set, replicate}
 use Rattle.model.specs.Lists.{any, all, padded}
 use Rattle.theorems.specs.Names.{MachineId, ClientId, Mode, Exclusive, Shared, Owner, Unowned, Owned, Waiter, Queue, Agent, AgentSlot, Address, ToDecider, ToMachine, Message, Free, Acquire, Grant, Release, Packet, Wire, LockState}
-use Rattle.model.specs.States.{queueOf, newAgent, seated, noAgent, idle, blankWaiter, blankPacket, wireOf, freshLock, fresh, noHolders}
-use Rattle.model.specs.WellFormed.{shaped, isBlankWaiter, distinct, queueFormed, agentFormed, isBlankAgent, slotFormed, messageFormed, packetFormed, isBlankPacket, wireFormed, lockFormed, wellFormed}
+use Rattle.model.specs.States.{queueOf, newAgent, seated, noAgent, idle, blankWaiter, blankPacket, wireOf, noHolders}
+use Rattle.model.specs.WellFormed.{shaped, isBlankWaiter, distinct, queueFormed, agentFormed, isBlankAgent, slotFormed, messageFormed, packetFormed, isBlankPacket, wireFormed, lockFormed}
 
 -- a well-formed state, and one that differs from it in one bound
 pub record Bound : Type 0 where
@@ -100,7 +100,3 @@ bounds =
 pub bounds-tested : (all (λ (b : Bound). lockFormed (b .within)) bounds ≡ true) × (any (λ (b : Bound). lockFormed (b .outside)) bounds ≡ false)
 unfolding bounds lockFormed wireFormed packetFormed messageFormed slotFormed agentFormed isBlankAgent isBlankPacket isBlankWaiter queueFormed distinct shaped padded queueOf noAgent blankPacket wireOf
 bounds-tested = (refl, refl)
-
-pub fresh-formed : wellFormed fresh ≡ true
-unfolding wellFormed fresh freshLock lockFormed wireFormed packetFormed messageFormed slotFormed agentFormed isBlankAgent isBlankPacket isBlankWaiter queueFormed distinct shaped padded queueOf noAgent blankPacket wireOf
-fresh-formed = refl
