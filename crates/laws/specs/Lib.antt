@@ -8,3 +8,4 @@ pub mod Making
 pub mod Kept
 pub mod Opened
 pub mod Clusters
+pub mod Next

@@ -1,0 +1,112 @@
+-- The drain's next call passes its tests: on a well-formed cluster it is its step.
+use mathlib.Core.Path.{_≡_, refl, sym, _∙_}
+use mathlib.Core.Bool.{Bool, true, false, not}
+use mathlib.Core.List.{List, [], _∷_}
+use Prim.Native.Nat.{ℕ, zero, suc, _+_, _*_, _/_, _%_, _<_, _≤_}
+use native.Mathlib.Omega.{arith}
+use lib.ListN.{length, getD}
+use lib.Dec.{leb}
+use borrow.Author.Tests.{lt-leb}
+use Rattle.model.specs.Lists.{pick}
+use Rattle.laws.specs.Names.{LockId, MachineId, TaskId, ClientId, Mode, Packet, Status, Idle, Waiting, Holding, ClientState, LockState, Cluster, Call, ReleaseCall, DeliverCall, Malformed}
+use Rattle.model.specs.States.{clientOf, statusOf, idle, packets, lockIn}
+use Rattle.model.specs.WellFormed.{wellFormed}
+use Rattle.model.specs.Refusals.{first}
+use Rattle.model.specs.Calls.{isHolding, unless, release, deliver, perform}
+use Rattle.model.specs.Drain.{Next, none, some, releaseFirst, nextOf, nextCall}
+use Rattle.laws.specs.Formed.{Parts, parts, lock-formed}
+use Rattle.laws.specs.Opened.{lockOf, stepOf, outcomeOf, Allowed, may-release, may-deliver}
+
+-- what the drain does next to a lock's state
+pub data NextIs (l : LockId) (s : LockState) : Call → Type 0 where
+  delivers-first : 0 < length (packets (s .wire)) → NextIs l s (DeliverCall l 0)
+  releases-holder : (c : ℕ) (m : Mode) → c < length (s .clients) → length (packets (s .wire)) ≡ 0 → statusOf s (record { 0 = c }) ≡ Holding m
+      → NextIs l s (ReleaseCall l (record { 0 = c / 4 }) (record { 0 = c % 4 }))
+
+holds : (st : Status) → isHolding st ≡ true → (m : Mode) × (st ≡ Holding m)
+holds Idle e = absurd (let z : _≡_ {A = ℕ} 0 1 = cc in omega arith)
+holds (Waiting m) e = absurd (let z : _≡_ {A = ℕ} 0 1 = cc in omega arith)
+holds (Holding m) e = (m, refl)
+
+-- the client found, counted from n
+pub record Found (n : ℕ) (cs : List ClientState) (l : LockId) (a : Call) : Type 0 where
+  pub at : ℕ
+  pub inside : at < length cs
+  pub mode : Mode
+  pub holding : getD cs at idle .status ≡ Holding mode
+  pub call : a ≡ ReleaseCall l (record { 0 = (n + at) / 4 }) (record { 0 = (n + at) % 4 })
+
+found : (l : LockId) (n : ℕ) (cs : List ClientState) (a : Call) → releaseFirst l n cs ≡ some a → Found n cs l a
+unfolding releaseFirst
+found l n [] a e = absurd (let z : _≡_ {A = ℕ} 0 1 = cc in omega arith)
+found l n (c ∷ cs) a e = go (isHolding (c .status)) refl e (found l (suc n) cs a)
+  where
+    later : Found (suc n) cs l a → Found n (c ∷ cs) l a
+    later f =
+        let q : suc n + f .at ≡ n + suc (f .at) = omega arith in
+        record { at = suc (f .at); inside = omega (arith, f .inside); mode = f .mode; holding = f .holding; call = rw q at (f .call) }
+
+    go : (b : Bool) → isHolding (c .status) ≡ b → pick b (some (ReleaseCall l (record { 0 = n / 4 }) (record { 0 = n % 4 }))) (releaseFirst l (suc n) cs) ≡ some a
+        → (releaseFirst l (suc n) cs ≡ some a → Found (suc n) cs l a) → Found n (c ∷ cs) l a
+    go true q r ih =
+        let h = holds (c .status) q in
+        let z : n + 0 ≡ n = omega arith in
+        record { at = 0; inside = omega arith; mode = h .0; holding = h .1; call = rw z (cc) }
+    go false q r ih = later (ih r)
+
+pub next-is : (l : LockId) (s : LockState) (a : Call) → nextCall l s ≡ some a → NextIs l s a
+unfolding nextOf
+next-is l s a e = go (packets (s .wire)) refl e
+  where
+    go : (ps : List Packet) → packets (s .wire) ≡ ps → nextOf l ps (s .clients) ≡ some a → NextIs l s a
+    go [] q r =
+        let f = found l 0 (s .clients) a r in
+        let z : 0 + f .at ≡ f .at = omega arith in
+        rw (f .call, z) (releases-holder (f .at) (f .mode) (f .inside) (rw q) (f .holding))
+    go (p ∷ ps) q r = let z : a ≡ DeliverCall l 0 = cc in rw z (delivers-first (rw q (omega arith)))
+
+-- nobody holds and the wire is empty
+pub record Rests (s : LockState) : Type 0 where
+  pub wire : packets (s .wire) ≡ []
+  pub nobody : (c : ℕ) → isHolding (getD (s .clients) c idle .status) ≡ false
+
+nobody-holds : (l : LockId) (n : ℕ) (cs : List ClientState) → releaseFirst l n cs ≡ none → (c : ℕ) → isHolding (getD cs c idle .status) ≡ false
+unfolding releaseFirst
+nobody-holds l n [] e c = refl
+nobody-holds l n (x ∷ cs) e c = go (isHolding (x .status)) refl e c (nobody-holds l (suc n) cs)
+  where
+    go : (b : Bool) → isHolding (x .status) ≡ b → pick b (some (ReleaseCall l (record { 0 = n / 4 }) (record { 0 = n % 4 }))) (releaseFirst l (suc n) cs) ≡ none → (c : ℕ)
+        → (releaseFirst l (suc n) cs ≡ none → (c : ℕ) → isHolding (getD cs c idle .status) ≡ false) → isHolding (getD (x ∷ cs) c idle .status) ≡ false
+    go true q r c ih = absurd (let z : _≡_ {A = ℕ} 0 1 = cc in omega arith)
+    go false q r zero ih = q
+    go false q r (suc c) ih = ih r c
+
+pub rests : (l : LockId) (s : LockState) → nextCall l s ≡ none → Rests s
+unfolding nextOf
+rests l s e = go (packets (s .wire)) refl e
+  where
+    go : (ps : List Packet) → packets (s .wire) ≡ ps → nextOf l ps (s .clients) ≡ none → Rests s
+    go [] q r = record { wire = q; nobody = nobody-holds l 0 (s .clients) r }
+    go (p ∷ ps) q r = absurd (let z : _≡_ {A = ℕ} 0 1 = cc in omega arith)
+
+-- ---- on a well-formed cluster the call is its step
+pub record Goes (l : LockId) (x : Cluster) (a : Call) : Type 0 where
+  pub lock : lockOf a ≡ l
+  pub allowed : Allowed a (lockIn x l)
+  pub step : perform a x ≡ outcomeOf a x
+
+pub goes : (l : LockId) (x : Cluster) (a : Call) → wellFormed x ≡ true → l .0 < 8 → NextIs l (lockIn x l) a → Goes l x a
+unfolding perform release deliver unless first
+goes l x _ w h (delivers-first n) =
+    record { lock = refl; allowed = may-deliver n; step = rw (w, lt-leb 8 (l .0) h, lt-leb (length (packets (lockIn x l .wire))) 0 n) }
+goes l x _ w h (releases-holder c m i z e) =
+    let sx : length (lockIn x l .clients) ≡ 16 = parts (lockIn x l) (lock-formed x l w h) .sixteen in
+    let q : 4 * (c / 4) + c % 4 ≡ c = omega arith in
+    let k : c / 4 < 4 = omega arith in
+    let t : c % 4 < 4 = omega arith in
+    let f : statusOf (lockIn x l) (clientOf (record { 0 = c / 4 }) (record { 0 = c % 4 })) ≡ Holding m = rw q e in
+    record {
+      lock = refl;
+      allowed = may-release k t m f;
+      step = rw (w, lt-leb 8 (l .0) h, lt-leb 4 (c / 4) k, lt-leb 4 (c % 4) t, f);
+    }
