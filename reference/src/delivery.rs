@@ -82,13 +82,7 @@ impl LockState {
             | Action::ConfirmHolder(_)
             | Action::Enqueue(_)
             | Action::RestoreAgent(_) => 0,
-            Action::InstallAgent(_) => match (packet.message, &packet.agent) {
-                (Message::Grant { mode, .. }, Some(agent)) if mode == Mode::Shared => {
-                    let shared = agent.queue.iter().filter(|w| w.mode == Mode::Shared);
-                    shared.count()
-                }
-                _ => 0,
-            },
+            Action::InstallAgent(_) => packet.shared_waiters(),
             Action::RemoveHolder(machine) => match packet.message.client() {
                 Some(client) => self.sent_by_removal(machine, client),
                 None => 0,
@@ -303,6 +297,19 @@ impl Decider {
         } else {
             Action::TransferAgent
         })
+    }
+}
+
+impl Packet {
+    /// How many waiters a shared GRANT with agent grants as well.
+    fn shared_waiters(&self) -> usize {
+        let is_shared = |mode: Mode| mode == Mode::Shared;
+        match (self.message, &self.agent) {
+            (Message::Grant { mode, .. }, Some(agent)) if is_shared(mode) => {
+                agent.queue.iter().filter(|w| is_shared(w.mode)).count()
+            }
+            _ => 0,
+        }
     }
 }
 

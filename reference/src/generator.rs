@@ -1,13 +1,16 @@
 //! The pseudo-random numbers of docs/random-runs.md.
 
+/// Seeds stay below this number, so that no product can overflow.
+pub const SEED_LIMIT: u64 = 1 << 20;
+
 /// A linear congruential generator with 32 bits of state.
 #[derive(Clone, Debug)]
 pub struct Generator(u64);
 
 impl Generator {
-    /// Spreads consecutive seeds over the states.
+    /// Spreads consecutive seeds, below `SEED_LIMIT`, over the states.
     pub fn new(seed: u64) -> Self {
-        Generator(seed % (1 << 20) * 2_654_435_761 % (1 << 32))
+        Generator(seed * 2_654_435_761 % (1 << 32))
     }
 
     /// The next output, 16 bits.

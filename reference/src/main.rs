@@ -1,5 +1,6 @@
 //! The command line of the reference program.
 
+use reference::generator::SEED_LIMIT;
 use reference::random_runs::{random_run, FIRST_RUN, LAST_RUN};
 use reference::random_states::{random_state, FIRST_STATE, LAST_STATE};
 use reference::random_transcripts::{
@@ -78,7 +79,8 @@ fn seeds(
 }
 
 fn parse_seed(word: &str) -> io::Result<u64> {
-    word.parse().map_err(|_| usage())
+    let seed = word.parse().ok();
+    seed.filter(|&seed| seed < SEED_LIMIT).ok_or_else(usage)
 }
 
 fn bytes(seed: &str, out: &mut dyn Write) -> io::Result<()> {

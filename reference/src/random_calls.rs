@@ -167,8 +167,8 @@ impl Profile {
     fn choose_place(&self, outputs: &[u64; 8], state: &LockState) -> u8 {
         let length = state.wire.len() as u64;
         let mut place = outputs[7] % (length + 1);
-        let patient = outputs[1] / 64 % 8 != 0;
-        while patient && place < length && self.delays(&state.wire[place as usize]) {
+        let hurries = (outputs[1] / 64).is_multiple_of(8);
+        while !hurries && place < length && self.delays(&state.wire[place as usize]) {
             place += 1;
         }
         place as u8

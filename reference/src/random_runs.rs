@@ -5,7 +5,7 @@ use crate::digest::Digest;
 use crate::generator::Generator;
 use crate::model::Cluster;
 use crate::random_calls::{Call, Profile, DRAIN};
-use crate::report::Report;
+use crate::report::{Observation, Report};
 use std::io;
 
 pub const FIRST_RUN: u64 = 1;
@@ -64,7 +64,7 @@ impl Run {
         while self.step < self.profile.steps {
             self.step += 1;
             self.one_step(report)?;
-            if self.step % LINE_STEPS == 0 && self.step < self.profile.steps {
+            if self.step.is_multiple_of(LINE_STEPS) && self.step < self.profile.steps {
                 let (step, digest) = (self.step, self.digest.value());
                 writeln!(report.out, "{label} {seed} step {step} digest {digest}")?;
             }
@@ -80,56 +80,61 @@ impl Run {
     fn one_step(&mut self, report: &mut Report) -> io::Result<()> {
         let outputs = self.generator.eight();
         let call = self.profile.choose_call(self.seed, &outputs, &self.cluster);
-        if outputs[0] % DRAIN_STEPS == 0 {
+        if outputs[0].is_multiple_of(DRAIN_STEPS) {
             let kind = DRAIN;
             self.drain(Call { kind, ..call }, report)?;
         }
-        let before = self.cluster.locks.get(call.lock.index()).cloned();
+        let before = Observation::of(&self.cluster, call.lock);
         let outcome = call.perform(&mut self.cluster);
-        let after = self.cluster.locks.get(call.lock.index());
-        report.tally.compare(before.as_ref(), after);
+        let after = Observation::of(&self.cluster, call.lock);
+        report.tally.compare(before, after);
+        let answer = answer_number(&outcome);
+        report.tally.count(call.kind, answer);
         self.accepted += u64::from(outcome.is_ok());
-        self.note(call, answer_number(&outcome), None, report)?;
-        if self.step % CLUSTER_STEPS == 0 {
+        self.digest.bytes(&[call.kind, answer]);
+        if self.step.is_multiple_of(CLUSTER_STEPS) {
             self.digest.cluster(&self.cluster);
         }
-        Ok(())
+        self.step_line(call, answer, 0, &self.cluster, report)
     }
 
     /// A drain on a copy, which the run keeps or forgets by its seed.
     fn drain(&mut self, call: Call, report: &mut Report) -> io::Result<()> {
         let mut drained = self.cluster.clone();
         let outcome = drained.drain(call.lock);
-        let count = outcome.unwrap_or(0);
-        self.note(call, answer_number(&outcome), Some(count), report)?;
-        self.digest.cluster(&drained);
+        let (answer, count) = (answer_number(&outcome), outcome.unwrap_or(0));
+        report.tally.count(call.kind, answer);
         report.tally.count_drain(count);
+        self.digest.bytes(&[call.kind, answer]);
+        self.digest.bytes(&count.to_le_bytes());
+        self.digest.cluster(&drained);
+        self.step_line(call, answer, count, &drained, report)?;
         if self.seed / 16 % 2 == 1 {
             self.cluster = drained;
         }
         Ok(())
     }
 
-    fn note(
-        &mut self,
+    fn step_line(
+        &self,
         call: Call,
         answer: u8,
-        count: Option<u16>,
+        count: u16,
+        cluster: &Cluster,
         report: &mut Report,
     ) -> io::Result<()> {
-        self.digest.bytes(&[call.kind, answer]);
-        if let Some(count) = count {
-            self.digest.bytes(&count.to_le_bytes());
-        }
-        report.tally.count(call.kind, answer);
         if !report.each_step {
             return Ok(());
         }
+        let mut alone = Digest::new(0);
+        alone.cluster(cluster);
         let (label, seed, step) = (self.label, self.seed, self.step);
-        let (count, digest) = (count.unwrap_or(0), self.digest.value());
+        let (digest, alone) = (self.digest.value(), alone.value());
+        write!(report.out, "{label} {seed} step {step} {call} ")?;
+        let out = &mut report.out;
         writeln!(
-            report.out,
-            "{label} {seed} step {step} {call} answer {answer} count {count} digest {digest}"
+            out,
+            "answer {answer} count {count} digest {digest} cluster {alone}"
         )
     }
 }

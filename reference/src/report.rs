@@ -1,6 +1,6 @@
 //! Where the lines of random runs go, and what was met on the way.
 
-use crate::model::{LockState, WIRE_CAPACITY};
+use crate::model::{Cluster, LockId, WIRE_CAPACITY};
 use std::io::Write;
 
 /// Kinds of calls: 0 a whole transcript, then acquire, release, deliver, drain.
@@ -29,17 +29,31 @@ impl Tally {
     }
 
     /// Notes what a call did to a decider's incarnation and to a wire.
-    pub fn compare(&mut self, before: Option<&LockState>, after: Option<&LockState>) {
-        let (Some(before), Some(after)) = (before, after) else {
-            return;
-        };
-        let (old, new) = (before.decider.incarnation, after.decider.incarnation);
+    pub fn compare(&mut self, before: Observation, after: Observation) {
         // Of all steps that change an incarnation only the shared grant adds a packet.
-        let is_grant = after.wire.len() > before.wire.len();
-        self.incarnation_wraps += u64::from(is_grant && old == 255 && new == 0);
-        if after.wire.len() <= WIRE_CAPACITY {
-            self.longest_wire = self.longest_wire.max(after.wire.len());
+        let is_grant = after.wire > before.wire;
+        let wraps = is_grant && before.incarnation == 255 && after.incarnation == 0;
+        self.incarnation_wraps += u64::from(wraps);
+        if after.wire <= WIRE_CAPACITY {
+            self.longest_wire = self.longest_wire.max(after.wire);
         }
+    }
+}
+
+/// What the tally looks at, before and after a call.
+#[derive(Clone, Copy, Debug, Default)]
+pub struct Observation {
+    incarnation: u8,
+    wire: usize,
+}
+
+impl Observation {
+    pub fn of(cluster: &Cluster, lock: LockId) -> Self {
+        let state = cluster.locks.get(lock.index());
+        state.map_or(Observation::default(), |state| Observation {
+            incarnation: state.decider.incarnation,
+            wire: state.wire.len(),
+        })
     }
 }
 

@@ -1,0 +1,257 @@
+//! The drills D1 to D13 of document 01.
+
+mod common;
+
+use common::*;
+use reference::model::{
+    Address, ClientStatus, Cluster, Decider, LockId, MachineId, Message, Mode, Owner, Packet,
+    TaskId, Waiter,
+};
+
+fn owned(mode: Mode, machine: u8, incarnation: u8) -> Decider {
+    let machine = MachineId(machine);
+    Decider {
+        owner: Some(Owner { mode, machine }),
+        incarnation,
+    }
+}
+
+fn d1() -> Cluster {
+    let mut cluster = Cluster::new();
+    accepted(&[
+        acquire(&mut cluster, 0, 0, SHARED),
+        deliver(&mut cluster, 0),
+    ]);
+    cluster
+}
+
+fn d2() -> Cluster {
+    let mut cluster = d1();
+    accepted(&[
+        deliver(&mut cluster, 0),
+        acquire(&mut cluster, 1, 0, SHARED),
+        deliver(&mut cluster, 0),
+    ]);
+    cluster
+}
+
+fn d3() -> Cluster {
+    let mut cluster = d2();
+    accepted(&[release(&mut cluster, 0, 0), deliver(&mut cluster, 2)]);
+    cluster
+}
+
+fn d4() -> Cluster {
+    let mut cluster = d3();
+    accepted(&[deliver(&mut cluster, 2)]);
+    cluster
+}
+
+fn d6() -> Cluster {
+    let mut cluster = d2();
+    accepted(&[
+        deliver(&mut cluster, 0),
+        release(&mut cluster, 1, 0),
+        deliver(&mut cluster, 1),
+        deliver(&mut cluster, 1),
+    ]);
+    cluster
+}
+
+/// All sixteen clients have come and gone; nothing reached the agent.
+fn d13() -> Cluster {
+    let mut cluster = d1();
+    accepted(&[deliver(&mut cluster, 0), release(&mut cluster, 0, 0)]);
+    for number in 0..16 {
+        let (machine, task) = (number / 4, number % 4);
+        let last = lock(&cluster).wire.len() as u8;
+        accepted(&[
+            acquire(&mut cluster, machine, task, SHARED),
+            deliver(&mut cluster, last),
+            deliver(&mut cluster, last),
+        ]);
+    }
+    for number in 0..16 {
+        accepted(&[release(&mut cluster, number / 4, number % 4)]);
+    }
+    cluster
+}
+
+#[test]
+fn d1_first_request_takes_the_free_lock() {
+    let cluster = d1();
+    assert_eq!(lock(&cluster).decider, owned(Mode::Shared, 0, 0));
+}
+
+#[test]
+fn d2_shared_request_is_granted_by_the_decider() {
+    let cluster = d2();
+    let reader = client(1, 0);
+    let expected = [
+        plain(grant(reader, Mode::Shared), to(1)),
+        plain(request(reader, Mode::Shared, true), to(0)),
+    ];
+    assert_eq!(lock(&cluster).wire, expected);
+    assert_eq!(lock(&cluster).decider, owned(Mode::Shared, 0, 1));
+}
+
+#[test]
+fn d3_early_free_is_rejected() {
+    let mut cluster = d2();
+    accepted(&[release(&mut cluster, 0, 0)]);
+    let sent = lock(&cluster).wire[2].clone();
+    assert_eq!(
+        (sent.message, sent.address),
+        (Message::Free, Address::Decider)
+    );
+    assert_eq!(sent.agent.as_ref().map(|a| a.incarnation), Some(0));
+    accepted(&[deliver(&mut cluster, 2)]);
+    let rejected = Packet {
+        address: to(0),
+        rejected: true,
+        ..sent
+    };
+    assert_eq!(lock(&cluster).wire[2], rejected);
+    assert_eq!(lock(&cluster).decider, owned(Mode::Shared, 0, 1));
+}
+
+#[test]
+fn d4_rejected_agent_is_restored() {
+    let cluster = d4();
+    assert_eq!(lock(&cluster).wire.len(), 2);
+    assert!(agent(&cluster, 0).holders.is_empty());
+}
+
+#[test]
+fn d5_granted_request_reaches_the_restored_agent() {
+    let mut cluster = d4();
+    accepted(&[deliver(&mut cluster, 1)]);
+    assert_eq!(holders(agent(&cluster, 0)), [client(1, 0).0]);
+    assert_eq!(agent(&cluster, 0).incarnation, 1);
+}
+
+#[test]
+fn d6_early_release_goes_back() {
+    let cluster = d6();
+    let release = Message::Release {
+        client: client(1, 0),
+    };
+    assert_eq!(lock(&cluster).wire[1], plain(release, Address::Decider));
+    assert_eq!(holders(agent(&cluster, 0)), [client(0, 0).0]);
+}
+
+#[test]
+fn d7_client_on_the_wire_may_not_acquire() {
+    assert_eq!(acquire(&mut d6(), 1, 0, SHARED), 6);
+}
+
+#[test]
+fn d8_exclusive_lock_moves_to_the_waiter() {
+    let mut cluster = Cluster::new();
+    accepted(&[
+        acquire(&mut cluster, 0, 0, EXCLUSIVE),
+        deliver(&mut cluster, 0),
+        deliver(&mut cluster, 0),
+        acquire(&mut cluster, 1, 0, EXCLUSIVE),
+        deliver(&mut cluster, 0),
+        deliver(&mut cluster, 0),
+        release(&mut cluster, 0, 0),
+        deliver(&mut cluster, 0),
+    ]);
+    assert_eq!(lock(&cluster).decider, owned(Mode::Exclusive, 1, 0));
+}
+
+#[test]
+fn d9_incarnation_wraps() {
+    let mut cluster = d2();
+    cluster.locks[0].decider.incarnation = 255;
+    accepted(&[
+        acquire(&mut cluster, 2, 0, SHARED),
+        deliver(&mut cluster, 2),
+    ]);
+    assert_eq!(lock(&cluster).decider, owned(Mode::Shared, 0, 0));
+}
+
+#[test]
+fn d10_lock_is_tested_before_mode() {
+    let mut cluster = Cluster::new();
+    let outcome = cluster.acquire(LockId(8), MachineId(0), TaskId(0), 1);
+    assert_eq!(answer(outcome), 1);
+}
+
+#[test]
+fn d11_ranges() {
+    let call = |lock, machine, task, mode| {
+        let mut cluster = Cluster::new();
+        answer(cluster.acquire(LockId(lock), MachineId(machine), TaskId(task), mode))
+    };
+    assert_eq!([call(7, 3, 3, 2), call(7, 3, 3, 3)], [0, 0]);
+    assert_eq!(
+        [call(8, 3, 3, 2), call(7, 4, 3, 2), call(7, 3, 4, 2)],
+        [1, 2, 3]
+    );
+    assert_eq!(
+        [call(7, 3, 3, 0), call(7, 3, 3, 1), call(7, 3, 3, 4)],
+        [4, 4, 4]
+    );
+    let mut cluster = d2();
+    assert_eq!([deliver(&mut cluster, 2), deliver(&mut cluster, 1)], [8, 0]);
+}
+
+#[test]
+fn d12_shared_waiters_are_granted_together() {
+    let mut cluster = Cluster::new();
+    accepted(&[
+        acquire(&mut cluster, 0, 0, EXCLUSIVE),
+        deliver(&mut cluster, 0),
+        deliver(&mut cluster, 0),
+    ]);
+    for (machine, mode) in [(1, SHARED), (2, EXCLUSIVE), (3, SHARED)] {
+        accepted(&[
+            acquire(&mut cluster, machine, 0, mode),
+            deliver(&mut cluster, 0),
+            deliver(&mut cluster, 0),
+        ]);
+    }
+    accepted(&[
+        release(&mut cluster, 0, 0),
+        deliver(&mut cluster, 0),
+        deliver(&mut cluster, 0),
+    ]);
+    let (a, b, c) = (client(1, 0), client(2, 0), client(3, 0));
+    let mode = Mode::Exclusive;
+    assert_eq!(agent(&cluster, 1).queue, [Waiter { client: b, mode }]);
+    assert_eq!(holders(agent(&cluster, 1)), [a.0, c.0]);
+    let expected = [plain(grant(c, Mode::Shared), Address::Decider)];
+    assert_eq!(lock(&cluster).wire, expected);
+    assert_eq!(status(&cluster, 1, 0), ClientStatus::Holding(Mode::Shared));
+    assert_eq!(
+        status(&cluster, 2, 0),
+        ClientStatus::Waiting(Mode::Exclusive)
+    );
+    accepted(&[deliver(&mut cluster, 0), deliver(&mut cluster, 0)]);
+    assert_eq!(status(&cluster, 3, 0), ClientStatus::Holding(Mode::Shared));
+}
+
+#[test]
+fn d13_wire_holds_33_packets() {
+    let cluster = d13();
+    assert_eq!(lock(&cluster).wire.len(), 33);
+    assert_eq!(lock(&cluster).decider, owned(Mode::Shared, 0, 16));
+    assert!(cluster.is_well_formed());
+}
+
+#[test]
+fn d13_drains_to_the_fresh_cluster() {
+    let mut by_calls = d13();
+    let mut steps = 0;
+    while !lock(&by_calls).wire.is_empty() {
+        accepted(&[deliver(&mut by_calls, 0)]);
+        steps += 1;
+    }
+    assert_eq!(by_calls, Cluster::new());
+    let mut drained = d13();
+    assert_eq!(drained.drain(LOCK), Ok(steps));
+    assert_eq!(drained, Cluster::new());
+    assert_eq!(drained.drain(LOCK), Ok(0));
+}
