@@ -38,22 +38,22 @@ Hold [] = Unit {0}
 Hold (s ∷ ss) = (resultOf s ≡ s .result) × Hold ss
 
 -- ---- words for states and calls: clients 0/0, 0/1 and 1/0 are 0, 1 and 4, and 2/0 is 8
-abbrev machine : ℕ → MachineId
+abbrev pub machine : ℕ → MachineId
 machine k = record { 0 = k }
 
-abbrev client : ℕ → ClientId
+abbrev pub client : ℕ → ClientId
 client c = record { 0 = c }
 
-abbrev on : ℕ → LockId
+abbrev pub on : ℕ → LockId
 on l = record { 0 = l }
 
-abbrev acquires0 : ℕ → ℕ → ℕ → Call
+abbrev pub acquires0 : ℕ → ℕ → ℕ → Call
 acquires0 k t m = AcquireCall (on 0) (machine k) (record { 0 = t }) m
 
-abbrev releases0 : ℕ → ℕ → Call
+abbrev pub releases0 : ℕ → ℕ → Call
 releases0 k t = ReleaseCall (on 0) (machine k) (record { 0 = t })
 
-abbrev delivers0 : ℕ → Call
+abbrev pub delivers0 : ℕ → Call
 delivers0 i = DeliverCall (on 0) i
 
 abbrev owned : Mode → ℕ → ℕ → Decider
@@ -90,7 +90,7 @@ abbrev lock : Decider → List AgentSlot → List ClientState → List Packet �
 lock d slots cs ps = record { decider = d; agents = slots; clients = cs; wire = wireOf ps }
 
 -- lock 0 in this state, the others fresh
-abbrev with0 : LockState → Cluster
+abbrev pub with0 : LockState → Cluster
 with0 s = record { locks = s ∷ replicate 7 freshLock }
 
 abbrev from : LockState → List Call → List Answer → LockState → Scenario
@@ -104,7 +104,7 @@ abbrev firstAgent : Agent
 firstAgent = agent Shared (0 ∷ []) 0
 
 -- D1: decider shared, machine 0, incarnation 0.
-abbrev d1 : LockState
+abbrev pub d1 : LockState
 d1 = lock (owned Shared 0 0) nowhere (status 0 (Waiting Shared) others) (carrying (Grant (client 0) Shared) (ToMachine (machine 0)) false (newAgent Shared) ∷ [])
 
 -- the listing after record 3: 0/0 holds
@@ -129,11 +129,11 @@ abbrev d3 : LockState
 d3 = lock (owned Shared 0 1) nowhere waiting4 (grantTo1 ∷ markedTo0 ∷ carrying Free ToDecider false (agent Shared [] 0) ∷ [])
 
 -- D3: delivered, it is turned back to machine 0.
-abbrev d3-rejected : LockState
+abbrev pub d3-rejected : LockState
 d3-rejected = lock (owned Shared 0 1) nowhere waiting4 (grantTo1 ∷ markedTo0 ∷ carrying Free (ToMachine (machine 0)) true (agent Shared [] 0) ∷ [])
 
 -- D4: an agent on machine 0, no holders.
-abbrev d4 : LockState
+abbrev pub d4 : LockState
 d4 = lock (owned Shared 0 1) (on0 (agent Shared [] 0)) waiting4 (grantTo1 ∷ markedTo0 ∷ [])
 
 -- D5: holder 1/0, agent's incarnation 1.

@@ -1,0 +1,86 @@
+-- What the contracts rule out. An engine is what a program answers to each call on each cluster; it meets the contracts where it equals
+-- the model. None of the following behaviours meets them, by the scenario that document 01 names for it.
+use mathlib.Core.Path.{_≡_, refl, sym, ap, _∙_}
+use mathlib.Core.Bool.{true≢false}
+use mathlib.Core.List.{List, [], _∷_}
+use Prim.Native.Nat.{ℕ}
+use native.Mathlib.Omega.{arith}
+use Rattle.theorems.specs.Names.{LockId, MachineId, Mode, Shared, Owned, AgentSlot, LockState, Cluster, Call, AcquireCall, DeliverCall, LockRange, Refusal, Answer, Accepted, Refused, Outcome}
+use lib.ListN.{getD}
+use Rattle.model.specs.States.{noAgent, wireOf, lockIn, freshLock}
+use Rattle.model.specs.Calls.{perform, run}
+use Rattle.theorems.specs.Scenarios.{Result, Scenario, answersOf, resultOf, scenarios, scenarios-hold, machine, on, acquires0, delivers0, with0, d1, d3-rejected, d4}
+
+abbrev pub Engine : Type 0
+Engine = Call → Cluster → Outcome
+
+abbrev pub Meets : Engine → Type 0
+Meets e = (c : Call) (x : Cluster) → e c x ≡ perform c x
+
+abbrev pub answers : Engine → Call → Cluster → Answer
+answers e c x = e c x .answer
+
+apart : (r : Refusal) → Accepted ≡ Refused r → ⊥
+apart r e = let z : _≡_ {A = ℕ} 0 1 = cc in omega arith
+
+-- ---- what the scenarios say of single calls
+d1-answers : answersOf (acquires0 0 0 3 ∷ delivers0 0 ∷ []) (with0 freshLock) ≡ Accepted ∷ Accepted ∷ []
+unfolding scenarios
+d1-answers = ap (λ (r : Result). r .answers) (scenarios-hold .0)
+
+-- D1: the first acquire is accepted, and changes the cluster
+d1-accepted : perform (acquires0 0 0 3) (with0 freshLock) .answer ≡ Accepted
+unfolding answersOf
+d1-accepted = let h = d1-answers in cc
+
+d1-run : run (acquires0 0 0 3 ∷ delivers0 0 ∷ []) (with0 freshLock) ≡ with0 d1
+unfolding scenarios
+d1-run = ap (λ (r : Result). r .cluster) (scenarios-hold .0)
+
+-- D10: lock 8 is refused
+lock8 : Call
+lock8 = AcquireCall (on 8) (machine 0) (record { 0 = 0 }) 1
+
+d10-refused : perform lock8 (with0 freshLock) .answer ≡ Refused LockRange
+unfolding scenarios answersOf lock8
+d10-refused = let h = ap (λ (r : Result). r .answers) (scenarios-hold .1 .1 .1 .1 .1 .1 .1 .1 .1 .1 .1 .1 .1 .0) in cc
+
+-- D4: the delivery of the rejected FREE puts the agent on machine 0
+d4-run : perform (delivers0 2) (with0 d3-rejected) .cluster ≡ with0 d4
+unfolding scenarios run
+d4-run = ap (λ (r : Result). r .cluster) (scenarios-hold .1 .1 .1 .1 .1 .0)
+
+-- ---- an engine that refuses each step
+pub refuses-each : (e : Engine) → Meets e → ((c : Call) (x : Cluster) → (r : Refusal) × (answers e c x ≡ Refused r)) → ⊥
+refuses-each e m f =
+    let c = acquires0 0 0 3 in
+    let x = with0 freshLock in
+    apart (f c x .0) (sym d1-accepted ∙ sym (ap (λ (o : Outcome). o .answer) (m c x)) ∙ f c x .1)
+
+-- ---- one that answers 0 and changes nothing
+pub changes-nothing : (e : Engine) → Meets e → ((c : Call) (x : Cluster) → e c x .cluster ≡ x) → ⊥
+unfolding run freshLock wireOf
+changes-nothing e m f =
+    let still : (c : Call) (x : Cluster) → perform c x .cluster ≡ x = λ c x. sym (ap (λ (o : Outcome). o .cluster) (m c x)) ∙ f c x in
+    let x = with0 freshLock in
+    let y = perform (acquires0 0 0 3) x .cluster in
+    let same : with0 d1 ≡ with0 freshLock = sym d1-run ∙ still (delivers0 0) y ∙ still (acquires0 0 0 3) x in
+    let z : _≡_ {A = ℕ} 1 0 = ap (λ (x : Cluster). lockIn x (on 0) .wire .len) same in
+    omega arith
+
+-- ---- one with a single fixed answer
+pub answers-one : (e : Engine) (a : Answer) → Meets e → ((c : Call) (x : Cluster) → answers e c x ≡ a) → ⊥
+answers-one e a m f =
+    let x = with0 freshLock in
+    let yes : a ≡ Accepted = sym (f (acquires0 0 0 3) x) ∙ ap (λ (o : Outcome). o .answer) (m (acquires0 0 0 3) x) ∙ d1-accepted in
+    let no : a ≡ Refused LockRange = sym (f lock8 x) ∙ ap (λ (o : Outcome). o .answer) (m lock8 x) ∙ d10-refused in
+    apart LockRange (sym yes ∙ no)
+
+-- ---- one that serves the first delivery of a lock and afterwards only shifts packets: a delivery on an owned lock leaves its agents
+pub shifts-only : (e : Engine) → Meets e → ((l : LockId) (i : ℕ) (x : Cluster) → (o : Mode) (k : MachineId) → lockIn x l .decider .owner ≡ Owned o k → lockIn (e (DeliverCall l i) x .cluster) l .agents ≡ lockIn x l .agents) → ⊥
+unfolding noAgent
+shifts-only e m f =
+    let x = with0 d3-rejected in
+    let same : lockIn (e (delivers0 2) x .cluster) (on 0) .agents ≡ d3-rejected .agents = f (on 0) 2 x Shared (machine 0) refl in
+    let done : e (delivers0 2) x .cluster ≡ with0 d4 = ap (λ (o : Outcome). o .cluster) (m (delivers0 2) x) ∙ d4-run in
+    true≢false (ap (λ (slots : List AgentSlot). getD slots 0 noAgent .present) (rw done at same))
