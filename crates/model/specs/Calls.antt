@@ -114,6 +114,11 @@ unfoldable pub run : List Call → Cluster → Cluster
 run [] x = x
 run (c ∷ cs) x = run cs (perform c x .cluster)
 
+-- the answers of a list's calls, in its order
+abbrev pub answersOf : List Call → Cluster → List Answer
+answersOf [] x = []
+answersOf (c ∷ cs) x = perform c x .answer ∷ answersOf cs (perform c x .cluster)
+
 -- The first gets a fresh bench.
 abbrev pub after : List Call → Cluster
 after cs = run cs fresh

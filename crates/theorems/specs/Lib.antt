@@ -1,7 +1,30 @@
--- Theorems about the model's definitions.
+-- Why the model is right: the invariant of a lock's state, that every call keeps it, and what follows for every list of calls. A reader
+-- starts at Statements, then Weights and Invariant; Scenarios and Bounds show the definitions at work; the rest are proofs.
 pub mod Names
--- the scenarios D1 to D10, and the bounds of well-formedness
+-- ---- the definitions at work: scenarios, the bounds of well-formedness, what the contracts rule out
 pub mod Scenarios
 pub mod Bounds
--- what the contracts rule out
 pub mod RuledOut
+-- ---- the invariant
+pub mod Tally
+pub mod Weights
+pub mod Invariant
+-- ---- what a step has to show, and what the invariant gives
+pub mod Keep
+pub mod Facts
+pub mod Fresh
+-- ---- the rules
+pub mod Sent
+pub mod AtDecider
+pub mod Waiters
+pub mod Leaving
+pub mod Install
+pub mod AtMachine
+pub mod Clients
+pub mod Steps
+-- ---- lists of calls
+pub mod Exclusion
+pub mod Runs
+pub mod Traced
+pub mod Statements
+pub mod Theorems

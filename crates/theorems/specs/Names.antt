@@ -1,4 +1,4 @@
--- The model's declared types and their constructors: a facade passes on no `pub use`, so each crate has this list.
+-- One header for all files: the model's declared types and constructors, and the names of the library, the model and its laws.
 pub use Rattle.model.specs.declared.LockId.{LockId}
 pub use Rattle.model.specs.declared.MachineId.{MachineId}
 pub use Rattle.model.specs.declared.TaskId.{TaskId}
@@ -35,3 +35,36 @@ pub use Rattle.model.specs.declared.Drained.{Drained}
 pub use Rattle.model.specs.declared.Reading.{Reading}
 pub use Rattle.model.specs.declared.Reading.the-variants.{Record, Bad, End}
 pub use Rattle.model.specs.declared.Replayed.{Replayed}
+-- ---- the library
+pub use mathlib.Core.Path.{_≡_, refl, sym, ap, _∙_}
+pub use mathlib.Core.Bool.{Bool, true, false, _&&_, _||_, not, and-true, and-false, true≢false, false≢true}
+pub use mathlib.Core.List.{List, [], _∷_, _++_, map}
+pub use Prim.Native.Nat.{ℕ, zero, suc, _+_, _-_, _*_, _≤_, _<_, _/_, _%_}
+pub use native.Mathlib.Omega.{arith}
+pub use native.Mathlib.Decide.{ℕ-discrete}
+pub use lib.ListN.{length, getD, take, drop, set, replicate, length-set, length-append, List·getD-eq-default}
+pub use lib.Seq.{set-getD, getD-set-same, getD-set-other}
+pub use lib.Dec.{eqb, leb, ltb}
+pub use borrow.Author.Tests.{eqb-true, eqb-false, eq-eqb, ne-eqb, ltb-true, ltb-false, lt-ltb, leb-true, leb-false, le-leb, lt-leb, not-true, not-false}
+-- ---- the model and its laws
+pub use Rattle.model.specs.Lists.{pick, any, all}
+unfoldable pub use Rattle.model.specs.Lists.{removed}
+pub use Rattle.model.specs.States.{clientOf, machineOf, modeOf, isShared, noHolders, newAgent, seated, agentOn, listed, idle, statusOf, packet, unowned, lockIn}
+unfoldable pub use Rattle.model.specs.States.{queueOf, waiters, noAgent, blankPacket, wireOf, packets, freshLock, fresh}
+pub use Rattle.model.specs.WellFormed.{isClient}
+unfoldable pub use Rattle.model.specs.WellFormed.{lockFormed, wellFormed}
+pub use Rattle.model.specs.Changes.{Change, Verdict, cannot-place, does, apply, accepted, machine0, client0, sending, deciding, seating, telling, seatingTelling}
+unfoldable pub use Rattle.model.specs.Changes.{finish}
+pub use Rattle.model.specs.Asking.{changed, joining, queuing, noRoom, withRoom, mayJoin, anyHolder, without, departing, slotLeft, sendsLeft, lists}
+unfoldable pub use Rattle.model.specs.Asking.{asks, acquires, handOver, leaves, releases}
+pub use Rattle.model.specs.AtDecider.{next, sentOn, granting, grantsFirst, shares, current, rejecting, passesOn}
+unfoldable pub use Rattle.model.specs.AtDecider.{toOwner, decidesAcquire, decidesFree, decidesGrant, decides, atDecider}
+pub use Rattle.model.specs.AtMachine.{bounced, bounces, grantOf, installed, requeued}
+unfoldable pub use Rattle.model.specs.AtMachine.{ofMode, admitted, staying, joined, installs, granted, marked, unmarked, acquired, released, returned, arrives, atMachine}
+pub use Rattle.model.specs.Calls.{refusing, isIdle, isHolding, messageNames, names, packetAt, answersOf, after}
+unfoldable pub use Rattle.model.specs.Calls.{delivers, acquireStep, releaseStep, deliverStep, settled, unless, acquire, release, deliver, perform, run}
+pub use Rattle.model.specs.Refusals.{refusalNumber, number}
+pub use Rattle.model.specs.Trace.{View, unseen, sameLock, sameClient, isAccepted, listedHome, joinsNow, toMachine, isGrantFor, grants, asked, shownIn, shown, handedBack, phaseAfter}
+unfoldable pub use Rattle.model.specs.Trace.{sees, watch}
+pub use Rattle.laws.specs.Tests.{and-left, and-right, both, or-left, or-right, bool-cases, pick-yes, pick-no}
+pub use Rattle.laws.specs.Shapes.{packets-of, waiters-of}

@@ -8,8 +8,8 @@ use native.Mathlib.Omega.{arith}
 use Rattle.theorems.specs.Names.{LockId, MachineId, Mode, Shared, Owned, AgentSlot, LockState, Cluster, Call, AcquireCall, DeliverCall, LockRange, Refusal, Answer, Accepted, Refused, Outcome}
 use lib.ListN.{getD}
 use Rattle.model.specs.States.{noAgent, wireOf, lockIn, freshLock}
-use Rattle.model.specs.Calls.{perform, run}
-use Rattle.theorems.specs.Scenarios.{Result, Scenario, answersOf, resultOf, scenarios, scenarios-hold, machine, on, acquires0, delivers0, with0, d1, d3-rejected, d4}
+use Rattle.model.specs.Calls.{perform, run, answersOf}
+use Rattle.theorems.specs.Scenarios.{Result, Scenario, resultOf, scenarios, scenarios-hold, machine, on, acquires0, delivers0, with0, d1, d3-rejected, d4}
 
 abbrev pub Engine : Type 0
 Engine = Call → Cluster → Outcome
@@ -30,7 +30,6 @@ d1-answers = ap (λ (r : Result). r .answers) (scenarios-hold .0)
 
 -- D1: the first acquire is accepted, and changes the cluster
 d1-accepted : perform (acquires0 0 0 3) (with0 freshLock) .answer ≡ Accepted
-unfolding answersOf
 d1-accepted = let h = d1-answers in cc
 
 d1-run : run (acquires0 0 0 3 ∷ delivers0 0 ∷ []) (with0 freshLock) ≡ with0 d1
@@ -42,7 +41,7 @@ lock8 : Call
 lock8 = AcquireCall (on 8) (machine 0) (record { 0 = 0 }) 1
 
 d10-refused : perform lock8 (with0 freshLock) .answer ≡ Refused LockRange
-unfolding scenarios answersOf lock8
+unfolding scenarios lock8
 d10-refused = let h = ap (λ (r : Result). r .answers) (scenarios-hold .1 .1 .1 .1 .1 .1 .1 .1 .1 .1 .1 .1 .1 .0) in cc
 
 -- D4: the delivery of the rejected FREE puts the agent on machine 0

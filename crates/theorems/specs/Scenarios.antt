@@ -14,7 +14,7 @@ use Rattle.model.specs.Asking.{asks, acquires, handOver, leaves, releases}
 use Rattle.model.specs.AtDecider.{toOwner, decidesAcquire, decidesFree, decidesGrant, decides, atDecider}
 use Rattle.model.specs.AtMachine.{ofMode, admitted, staying, joined, installs, granted, marked, unmarked, acquired, released, returned, arrives, atMachine}
 use Rattle.model.specs.Refusals.{first}
-use Rattle.model.specs.Calls.{delivers, acquireStep, releaseStep, deliverStep, settled, unless, acquire, release, deliver, perform, run}
+use Rattle.model.specs.Calls.{delivers, acquireStep, releaseStep, deliverStep, settled, unless, acquire, release, deliver, perform, run, answersOf}
 
 pub record Result : Type 0 where
   pub answers : List Answer
@@ -24,10 +24,6 @@ pub record Scenario : Type 0 where
   pub start : Cluster
   pub calls : List Call
   pub result : Result
-
-unfoldable pub answersOf : List Call → Cluster → List Answer
-answersOf [] x = []
-answersOf (c ∷ cs) x = perform c x .answer ∷ answersOf cs (perform c x .cluster)
 
 abbrev pub resultOf : Scenario → Result
 resultOf s = record { answers = answersOf (s .calls) (s .start); cluster = run (s .calls) (s .start) }
@@ -238,5 +234,5 @@ scenarios =
     ∷ []
 
 pub scenarios-hold : Hold scenarios
-unfolding scenarios answersOf run perform acquire release deliver unless settled first wellFormed lockFormed wireFormed packetFormed messageFormed slotFormed agentFormed isBlankAgent isBlankPacket isBlankWaiter queueFormed distinct shaped acquireStep releaseStep deliverStep finish delivers atDecider decides decidesAcquire decidesFree decidesGrant toOwner atMachine arrives acquired released returned marked unmarked granted installs admitted staying ofMode joined acquires asks releases leaves handOver padded removed queueOf waiters noAgent blankPacket wireOf packets freshLock
+unfolding scenarios run perform acquire release deliver unless settled first wellFormed lockFormed wireFormed packetFormed messageFormed slotFormed agentFormed isBlankAgent isBlankPacket isBlankWaiter queueFormed distinct shaped acquireStep releaseStep deliverStep finish delivers atDecider decides decidesAcquire decidesFree decidesGrant toOwner atMachine arrives acquired released returned marked unmarked granted installs admitted staying ofMode joined acquires asks releases leaves handOver padded removed queueOf waiters noAgent blankPacket wireOf packets freshLock
 scenarios-hold = (refl, (refl, (refl, (refl, (refl, (refl, (refl, (refl, (refl, (refl, (refl, (refl, (refl, (refl, (refl, (refl, (refl, (refl, tt))))))))))))))))))

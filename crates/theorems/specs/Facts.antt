@@ -1,0 +1,591 @@
+-- What the invariant gives: of packets, of agents, of counts.
+use Rattle.theorems.specs.Names.{MachineId, ClientId, Mode, Exclusive, Shared, Owner, Unowned, Owned, Waiter, Agent, AgentSlot, Address, Message, Free, Acquire, Grant, Release, Packet, Status, Idle, Waiting, Holding, LockState, _≡_, refl, sym, ap, _∙_, Bool, true, false, _&&_, not, and-false, false≢true, List, [], _∷_, ℕ, _+_, _*_, _≤_, _<_, _/_, arith, ℕ-discrete, length, getD, set, length-set, List·getD-eq-default, getD-set-same, getD-set-other, eqb, ltb, eqb-true, eq-eqb, ne-eqb, ltb-true, ltb-false, lt-ltb, leb-true, le-leb, seated, idle, noAgent, packets, Change, apply, changed, and-left, and-right, bool-cases}
+use Rattle.theorems.specs.Tally.{flag, tally, tally-set, tally-at, tally-le, tally-none, tally-add, tally-length, sumTo, sum-swap, sum-le, sum-ext, sum-one}
+use Rattle.theorems.specs.Weights.{statusAt, slotAt, weight, sameMode, one, hit, hitW, askM, queuedS, waitingP, markM, listedS, listedP, owedM, owedP, releaseM, releaseP, agentS, agentP, incarnationS, incarnationP, markAll, markP, rejectedP, heads, vacantS, waitF, holdF, idleF, ownedF, clash, farM, farF, ownedShared, ownedMode, ownedAt, few, fitsHome, misfitS, fitsAway, inRange, fits, misfitP}
+use Rattle.theorems.specs.Invariant.{Inv}
+use Rattle.theorems.specs.Keep.{Split}
+
+-- ---- tests: from a count of misfits to the test
+pub fit : (b : Bool) → flag (not b) ≡ 0 → b ≡ true
+fit true e = refl
+fit false e = absurd (omega arith)
+
+pub flag-none : (b : Bool) → flag b ≡ 0 → b ≡ false
+flag-none true e = absurd (omega arith)
+flag-none false e = refl
+
+-- ---- a slot without an agent counts nothing
+pub record Zero (s : AgentSlot) : Type 0 where
+  pub queuedS : (d : ℕ) (m : Mode) → queuedS d m s ≡ 0
+  pub listedS : (d : ℕ) → listedS d s ≡ 0
+  pub agentS : agentS s ≡ 0
+  pub incarnationS : incarnationS s ≡ 0
+  pub vacantS : vacantS s ≡ 0
+
+pub absent : (s : AgentSlot) → s .present ≡ false → Zero s
+unfolding queuedS listedS agentS incarnationS vacantS
+absent s e = record { queuedS = λ d m. rw e; listedS = λ d. rw e; agentS = rw e; incarnationS = rw e; vacantS = rw e }
+
+-- ---- holders
+pub list-on : (hs : List Bool) (c d : ℕ) → c < length hs → flag (getD hs c false) ≡ 0 → flag (getD (set hs c true) d false) ≡ flag (getD hs d false) + flag (eqb c d)
+list-on hs c d h e = go (ℕ-discrete d c)
+  where
+    go : Dec (d ≡ c) → flag (getD (set hs c true) d false) ≡ flag (getD hs d false) + flag (eqb c d)
+    go (yes q) = rw (q, getD-set-same hs c true false h, eq-eqb c c refl) (omega arith)
+    go (no n) = rw (getD-set-other hs c d true false n, ne-eqb c d (λ q. n (sym q))) (omega arith)
+
+pub list-off : (hs : List Bool) (c d : ℕ) → c < length hs → getD hs c false ≡ true → flag (getD (set hs c false) d false) + flag (eqb c d) ≡ flag (getD hs d false)
+list-off hs c d h e = go (ℕ-discrete d c)
+  where
+    go : Dec (d ≡ c) → flag (getD (set hs c false) d false) + flag (eqb c d) ≡ flag (getD hs d false)
+    go (yes q) = rw (q, getD-set-same hs c false false h, eq-eqb c c refl, e)
+    go (no n) = rw (getD-set-other hs c d false false n, ne-eqb c d (λ q. n (sym q))) (omega arith)
+
+pub nobody : (hs : List Bool) (d : ℕ) → tally flag hs ≡ 0 → flag (getD hs d false) ≡ 0
+nobody hs d e = go (ltb d (length hs)) refl
+  where
+    go : (b : Bool) → ltb d (length hs) ≡ b → flag (getD hs d false) ≡ 0
+    go true q = omega (arith, tally-at flag false hs d (ltb-true d (length hs) q))
+    go false q = rw (List·getD-eq-default hs false (ltb-false d (length hs) q))
+
+pub came-fits : (r : LockState) (rest : List Packet) (p : Packet) → Inv r → Split r (p ∷ []) rest → misfitP (r .decider .owner) p ≡ 0
+unfolding tally
+came-fits r rest p i sp = omega (arith, i .fitting, sp .parts (misfitP (r .decider .owner)))
+
+-- the machines that a step may send to
+pub near-owner : (r : LockState) (m : Mode) (k : MachineId) → Inv r → r .decider .owner ≡ Owned m k → farM k ≡ 0
+near-owner r m k i e = omega (arith, i .reach, ap farF e)
+
+pub near-home : (c : ClientId) → c .0 < 16 → farM (record { 0 = c .0 / 4 }) ≡ 0
+unfolding farM
+near-home c h = rw (lt-ltb (c .0 / 4) 4 (omega arith))
+
+-- an ACQUIRE or a RELEASE carries no agent
+pub carries-none-acquire : (o : Owner) (x : Bool) (t : Address) (b : Bool) (a : Agent) (c : ClientId) (n : Mode) (g : Bool) → fits o x t b a (Acquire c n g) ≡ true → x ≡ false
+unfolding fits
+carries-none-acquire o true t b a c n g e = sym (and-right (inRange (Acquire c n g)) false e)
+carries-none-acquire o false t b a c n g e = refl
+
+pub named-of : (o : Owner) (x : Bool) (t : Address) (b : Bool) (a : Agent) (m : Message) → fits o x t b a m ≡ true → inRange m ≡ true
+unfolding fits
+named-of o true t b a m e = and-left (inRange m) _ e
+named-of o false t b a m e = and-left (inRange m) _ e
+
+pub carries-none-release : (o : Owner) (x : Bool) (t : Address) (b : Bool) (a : Agent) (c : ClientId) → fits o x t b a (Release c) ≡ true → x ≡ false
+unfolding fits
+carries-none-release o true t b a c e = sym (and-right (inRange (Release c)) false e)
+carries-none-release o false t b a c e = refl
+
+-- what is known of an ACQUIRE or a RELEASE on the wire
+pub record Plain (c : ClientId) (s : AgentSlot) : Type 0 where
+  pub none : Zero s
+  pub named : ltb (c .0) 16 ≡ true
+  pub below : c .0 < 16
+
+pub plain-acquire : {r : LockState} {rest : List Packet} {c : ClientId} {n : Mode} {g : Bool} {t : Address} {b : Bool} {s : AgentSlot} → Inv r
+    → Split r (record { message = Acquire c n g; to = t; rejected = b; carried = s } ∷ []) rest → Plain c s
+unfolding misfitP
+plain-acquire {r} {rest} {c} {n} {g} {t} {b} {s} i sp =
+    let f : fits (r .decider .owner) (s .present) t b (s .agent) (Acquire c n g) ≡ true = fit _ (came-fits r rest _ i sp) in
+    let nm : ltb (c .0) 16 ≡ true = named-of _ _ _ _ _ (Acquire c n g) f in
+    record { none = absent s (carries-none-acquire _ _ _ _ _ _ _ _ f); named = nm; below = ltb-true (c .0) 16 nm }
+
+pub plain-release : {r : LockState} {rest : List Packet} {c : ClientId} {t : Address} {b : Bool} {s : AgentSlot} → Inv r
+    → Split r (record { message = Release c; to = t; rejected = b; carried = s } ∷ []) rest → Plain c s
+unfolding misfitP
+plain-release {r} {rest} {c} {t} {b} {s} i sp =
+    let f : fits (r .decider .owner) (s .present) t b (s .agent) (Release c) ≡ true = fit _ (came-fits r rest _ i sp) in
+    let nm : ltb (c .0) 16 ≡ true = named-of _ _ _ _ _ (Release c) f in
+    record { none = absent s (carries-none-release _ _ _ _ _ _ f); named = nm; below = ltb-true (c .0) 16 nm }
+
+-- ---- the agent in a packet
+pub record Away (a : Agent) : Type 0 where
+  pub sized : length (a .holders) ≡ 16
+  pub empty : heads a ≡ 0
+  pub small : a .incarnation < 256
+
+pub away-of : (a : Agent) → fitsAway a ≡ true → Away a
+unfolding fitsAway
+away-of a h =
+    let h1 : (eqb (heads a) 0 && ltb (a .incarnation) 256) ≡ true = and-right (eqb (length (a .holders)) 16) _ h in
+    record {
+      sized = eqb-true (length (a .holders)) 16 (and-left (eqb (length (a .holders)) 16) _ h);
+      empty = eqb-true (heads a) 0 (and-left (eqb (heads a) 0) _ h1);
+      small = ltb-true (a .incarnation) 256 (and-right (eqb (heads a) 0) _ h1);
+    }
+
+pub away-fits : (a : Agent) → Away a → fitsAway a ≡ true
+unfolding fitsAway
+away-fits a h = rw (eq-eqb (length (a .holders)) 16 (h .sized), eq-eqb (heads a) 0 (h .empty), lt-ltb (a .incarnation) 256 (h .small))
+
+pub record Home (o : Owner) (k : ℕ) (a : Agent) : Type 0 where
+  pub at : ownedAt o k ≡ true
+  pub mode : ownedMode o (a .mode) ≡ true
+  pub sized : length (a .holders) ≡ 16
+  pub few : few (a .mode) (heads a) ≡ true
+  pub small : a .incarnation < 256
+
+pub home-of : (o : Owner) (k : ℕ) (a : Agent) → misfitS o k (seated a) ≡ 0 → Home o k a
+unfolding misfitS fitsHome
+home-of o k a e =
+    let h : fitsHome o k a ≡ true = fit (fitsHome o k a) e in
+    let h1 : (ownedMode o (a .mode) && (eqb (length (a .holders)) 16 && (few (a .mode) (heads a) && ltb (a .incarnation) 256))) ≡ true = and-right (ownedAt o k) _ h in
+    let h2 : (eqb (length (a .holders)) 16 && (few (a .mode) (heads a) && ltb (a .incarnation) 256)) ≡ true = and-right (ownedMode o (a .mode)) _ h1 in
+    let h3 : (few (a .mode) (heads a) && ltb (a .incarnation) 256) ≡ true = and-right (eqb (length (a .holders)) 16) _ h2 in
+    record {
+      at = and-left (ownedAt o k) _ h;
+      mode = and-left (ownedMode o (a .mode)) _ h1;
+      sized = eqb-true _ _ (and-left (eqb (length (a .holders)) 16) _ h2);
+      few = and-left (few (a .mode) (heads a)) _ h3;
+      small = ltb-true (a .incarnation) 256 (and-right (few (a .mode) (heads a)) _ h3);
+    }
+
+pub home-fits : (o : Owner) (k : ℕ) (a : Agent) → Home o k a → misfitS o k (seated a) ≡ 0
+unfolding misfitS fitsHome
+home-fits o k a h = rw (h .at, h .mode, eq-eqb (length (a .holders)) 16 (h .sized), h .few, lt-ltb (a .incarnation) 256 (h .small))
+
+pub seat-home : (r : LockState) (k : ℕ) (a : Agent) → Inv r → slotAt r k ≡ seated a → Home (r .decider .owner) k a
+seat-home r k a i e = home-of (r .decider .owner) k a (rw e at (i .homes k))
+
+pub few-less : (m : Mode) (x y : ℕ) → y ≤ x → few m x ≡ true → few m y ≡ true
+few-less Exclusive x y h e = le-leb y 1 (omega (arith, leb-true x 1 e))
+few-less Shared x y h e = refl
+
+-- ---- a client's status after a step, as a number
+pub status-move : (F : Status → ℕ) (ch : Change) (rest : List Packet) (r : LockState) → ch .client .0 < length (r .clients) → (d : ℕ)
+    → F (statusAt (apply ch rest r) d) + flag (eqb (ch .client .0) d) * F (statusAt r (ch .client .0)) ≡ F (statusAt r d) + flag (eqb (ch .client .0) d) * F (ch .status)
+status-move F ch rest r h d = go (ℕ-discrete d (ch .client .0))
+  where
+    go : Dec (d ≡ ch .client .0)
+        → F (statusAt (apply ch rest r) d) + flag (eqb (ch .client .0) d) * F (statusAt r (ch .client .0)) ≡ F (statusAt r d) + flag (eqb (ch .client .0) d) * F (ch .status)
+    go (yes q) = rw (q, eq-eqb (ch .client .0) (ch .client .0) refl, statusAt, getD-set-same (r .clients) (ch .client .0) (record { status = ch .status }) idle h) (omega arith)
+    go (no n) = rw (ne-eqb (ch .client .0) d (λ q. n (sym q)), statusAt, getD-set-other (r .clients) (ch .client .0) d (record { status = ch .status }) idle n) (omega arith)
+
+-- ---- who waits is a client
+pub far-idle : (r : LockState) (d : ℕ) → Inv r → 16 ≤ d → statusAt r d ≡ Idle
+far-idle r d i h = let l : length (r .clients) ≤ d = omega (arith, i .sixteen) in rw (statusAt, List·getD-eq-default (r .clients) idle l)
+
+pub waiter-below : (r : LockState) (d : ℕ) (m : Mode) → Inv r → 0 < weight (waitingP d m) (queuedS d m) r → d < 16
+unfolding waitF
+waiter-below r d m i h =
+    bool-cases (ltb d 16) (λ q. ltb-true d 16 q) (λ q. absurd (omega (arith, rw (far-idle r d i (ltb-false d 16 q)) at (i .waits d m))))
+
+pub hit-self : (c : ClientId) (n : Mode) → hit (c .0) n c n ≡ 1
+unfolding hit
+hit-self c Exclusive = rw (eq-eqb (c .0) (c .0) refl)
+hit-self c Shared = rw (eq-eqb (c .0) (c .0) refl)
+
+-- a count over the packets or the slots, from below
+pub in-slot : (r : LockState) (f : Packet → ℕ) (g : AgentSlot → ℕ) (k : ℕ) (s : AgentSlot) → Inv r → k < 4 → slotAt r k ≡ s → g s ≤ weight f g r
+unfolding weight
+in-slot r f g k s i kk e = omega (arith, rw e at (tally-at g noAgent (r .agents) k (omega (arith, i .four))))
+
+pub waits-one : (m : Mode) (s : Status) → waitF m s ≤ 1
+unfolding waitF
+waits-one m Idle = omega arith
+waits-one Exclusive (Waiting Exclusive) = omega arith
+waits-one Exclusive (Waiting Shared) = omega arith
+waits-one Shared (Waiting Exclusive) = omega arith
+waits-one Shared (Waiting Shared) = omega arith
+waits-one m (Holding n) = omega arith
+
+pub waiting-is : (n : Mode) (s : Status) → waitF n s ≡ 1 → s ≡ Waiting n
+unfolding waitF
+waiting-is n Idle e = absurd (omega arith)
+waiting-is Exclusive (Waiting Exclusive) e = refl
+waiting-is Exclusive (Waiting Shared) e = absurd (omega arith)
+waiting-is Shared (Waiting Exclusive) e = absurd (omega arith)
+waiting-is Shared (Waiting Shared) e = refl
+waiting-is n (Holding m) e = absurd (omega arith)
+
+pub one-le : (d : ℕ) (c : ClientId) → one d c ≤ 1
+unfolding one
+one-le d c = bool-cases (eqb (c .0) d) (λ q. rw q (omega arith)) (λ q. rw q (omega arith))
+
+abbrev pub farW : Waiter → ℕ
+farW w = flag (not (ltb (w .client .0) 16))
+
+pub far-none : (ws : List Waiter) → ((d : ℕ) (m : Mode) → 16 ≤ d → tally (hitW d m) ws ≡ 0) → tally farW ws ≡ 0
+unfolding tally
+far-none [] h = refl
+far-none (w ∷ ws) h =
+    let t : tally farW ws ≡ 0 = far-none ws (λ d m g. omega (arith, h d m g)) in
+    rw (at (ltb (w .client .0) 16) refl) (omega arith)
+  where
+    at : (b : Bool) → ltb (w .client .0) 16 ≡ b → ltb (w .client .0) 16 ≡ true
+    at true e = e
+    at false e = absurd (omega (arith, h (w .client .0) (w .mode) (ltb-false (w .client .0) 16 e), hit-self (w .client) (w .mode)))
+
+pub clash-none : (o : Owner) (n : Mode) → ownedMode o n ≡ true → clash o (Holding n) ≡ 0
+unfolding clash
+clash-none Unowned n e = cc
+clash-none (Owned m k) n e = rw e
+
+pub shared-owner : (o : Owner) → ownedMode o Shared ≡ true → ownedShared o ≡ true
+shared-owner Unowned e = e
+shared-owner (Owned Exclusive k) e = e
+shared-owner (Owned Shared k) e = refl
+
+-- ---- a packet names one client, but for FREE
+abbrev pub namesM : ℕ → Message → ℕ
+namesM d m = askM d Exclusive m + askM d Shared m + markM d m + releaseM d m
+
+unfoldable pub isFree : Message → ℕ
+isFree (Acquire c n g) = 0
+isFree (Grant c n) = 0
+isFree (Release c) = 0
+isFree Free = 1
+
+pub hits : (d : ℕ) (c : ClientId) (n : Mode) → hit d Exclusive c n + hit d Shared c n ≡ one d c
+unfolding hit one
+hits d c Exclusive = omega arith
+hits d c Shared = omega arith
+
+-- the message names one client below 16, or is FREE
+names-sum : (m : Message) → inRange m ≡ true → isFree m + sumTo 16 (λ d. namesM d m) ≡ 1
+unfolding askM markM releaseM isFree one
+names-sum (Acquire c n false) e =
+    omega (arith, sum-ext 16 (λ d. namesM d (Acquire c n false)) (λ d. one d c) (λ d. omega (arith, hits d c n)), sum-one 16 (c .0) (ltb-true (c .0) 16 e))
+names-sum (Acquire c n true) e = omega (arith, sum-ext 16 (λ d. namesM d (Acquire c n true)) (λ d. one d c) (λ d. omega arith), sum-one 16 (c .0) (ltb-true (c .0) 16 e))
+names-sum (Grant c n) e = omega (arith, sum-ext 16 (λ d. namesM d (Grant c n)) (λ d. one d c) (λ d. omega (arith, hits d c n)), sum-one 16 (c .0) (ltb-true (c .0) 16 e))
+names-sum (Release c) e = omega (arith, sum-ext 16 (λ d. namesM d (Release c)) (λ d. one d c) (λ d. omega arith), sum-one 16 (c .0) (ltb-true (c .0) 16 e))
+names-sum Free e = omega (arith, sum-le 16 0 (λ d. namesM d Free) (λ d. omega arith))
+
+-- a packet is a misfit, or carries an agent and is a FREE, or names one client
+counts-one : (o : Owner) (p : Packet) → 1 ≤ misfitP o p + isFree (p .message) + sumTo 16 (λ d. namesM d (p .message))
+unfolding misfitP
+counts-one o p =
+    bool-cases (fits o (p .carried .present) (p .to) (p .rejected) (p .carried .agent) (p .message))
+    (λ q. omega (arith, names-sum (p .message) (named-of _ _ _ _ _ (p .message) q)))
+    (λ q. let e : misfitP o p ≡ 1 = rw q in omega arith)
+
+free-one : (m : Message) → isFree m ≤ 1
+unfolding isFree
+free-one (Acquire c n g) = omega arith
+free-one (Grant c n) = omega arith
+free-one (Release c) = omega arith
+free-one Free = omega arith
+
+free-fits : (o : Owner) (x : Bool) (t : Address) (b : Bool) (a : Agent) (m : Message) → isFree m ≤ flag (not (fits o x t b a m)) + flag x
+unfolding isFree fits
+free-fits o true t b a m = omega (arith, free-one m)
+free-fits o false t b a (Acquire c n g) = omega arith
+free-fits o false t b a (Grant c n) = omega arith
+free-fits o false t b a (Release c) = omega arith
+free-fits o false t true a Free = omega arith
+free-fits o false t false a Free = omega arith
+
+free-carries : (o : Owner) (p : Packet) → isFree (p .message) ≤ misfitP o p + agentP p
+unfolding misfitP agentS
+free-carries o p = free-fits o (p .carried .present) (p .to) (p .rejected) (p .carried .agent) (p .message)
+
+-- what is owed is a GRANT without agent or a RELEASE
+pub owes-parts : (d : ℕ) (p : Packet) → owedP d p ≤ askM d Exclusive (p .message) + askM d Shared (p .message) + releaseP d p
+owes-parts d p = go (p .carried .present) (p .message)
+  where
+    go : (x : Bool) (m : Message) → owedM d x m ≤ askM d Exclusive m + askM d Shared m + releaseM d m
+    go x (Acquire c n g) = unfold owedM in omega arith
+    go true (Grant c n) = unfold owedM in omega arith
+    go false (Grant c n) = unfold owedM askM in omega (arith, hits d c n)
+    go x (Release c) = unfold owedM releaseM in omega arith
+    go x Free = unfold owedM in omega arith
+
+pub statuses : (s : Status) → waitF Exclusive s + waitF Shared s + holdF s + idleF s ≡ 1
+unfolding waitF holdF idleF
+statuses Idle = refl
+statuses (Waiting Exclusive) = refl
+statuses (Waiting Shared) = refl
+statuses (Holding n) = refl
+
+pub owes-list : (d : ℕ) (qs : List Packet)
+    → tally (owedP d) qs ≤ tally (λ p. askM d Exclusive (p .message)) qs + tally (λ p. askM d Shared (p .message)) qs + tally (releaseP d) qs
+owes-list d qs =
+    omega (
+      arith,
+      tally-le (owedP d) _ (owes-parts d) qs,
+      tally-add (λ p. askM d Exclusive (p .message) + askM d Shared (p .message)) (releaseP d) qs,
+      tally-add (λ p. askM d Exclusive (p .message)) (λ p. askM d Shared (p .message)) qs,
+    )
+
+pub owned-one : (o : Owner) → ownedF o ≤ 1
+unfolding ownedF
+owned-one Unowned = omega arith
+owned-one (Owned m k) = omega arith
+
+module _ (r : LockState) (i : Inv r) where
+  abbrev ps : List Packet
+  ps = packets (r .wire)
+
+  -- the four counts of a client's packets
+  pub asks : (d : ℕ) (m : Mode) → tally (λ p. askM d m (p .message)) ps ≤ waitF m (statusAt r d)
+  unfolding weight
+  asks d m = omega (arith, i .waits d m, tally-add (λ p. askM d m (p .message)) (λ p. queuedS d m (p .carried)) ps)
+
+  marks : (d : ℕ) → tally (λ p. markM d (p .message)) ps ≤ holdF (statusAt r d) + tally (owedP d) ps
+  unfolding weight
+  marks d = omega (arith, i .holds d, tally-add (λ p. markM d (p .message)) (λ p. listedS d (p .carried)) ps)
+
+  pub owes : (d : ℕ) → tally (owedP d) ps ≤ tally (λ p. askM d Exclusive (p .message)) ps + tally (λ p. askM d Shared (p .message)) ps + tally (releaseP d) ps
+  owes d =
+      omega (
+        arith,
+        tally-le (owedP d) _ (owes-parts d) ps,
+        tally-add (λ p. askM d Exclusive (p .message) + askM d Shared (p .message)) (releaseP d) ps,
+        tally-add (λ p. askM d Exclusive (p .message)) (λ p. askM d Shared (p .message)) ps,
+      )
+
+  pub marked-below : (d : ℕ) → tally (λ p. markM d (p .message)) ps ≤ 1
+  marked-below d = omega (arith, statuses (statusAt r d), asks d Exclusive, asks d Shared, marks d, owes d, i .rels d)
+
+  pub named-below : (d : ℕ) → tally (λ p. namesM d (p .message)) ps ≤ 2
+  named-below d =
+      omega (
+        arith,
+        statuses (statusAt r d),
+        asks d Exclusive,
+        asks d Shared,
+        marks d,
+        owes d,
+        i .rels d,
+        tally-add (λ p. askM d Exclusive (p .message) + askM d Shared (p .message) + markM d (p .message)) (releaseP d) ps,
+        tally-add (λ p. askM d Exclusive (p .message) + askM d Shared (p .message)) (λ p. markM d (p .message)) ps,
+        tally-add (λ p. askM d Exclusive (p .message)) (λ p. askM d Shared (p .message)) ps,
+      )
+
+  frees : tally (λ p. isFree (p .message)) ps ≤ 1
+  unfolding weight
+  frees =
+      omega
+      (arith, tally-le _ _ (free-carries (r .decider .owner)) ps, tally-add (misfitP (r .decider .owner)) agentP ps, i .fitting, i .agent, owned-one (r .decider .owner))
+
+  pub wire-bound : length ps ≤ 33
+  wire-bound =
+      omega (
+        arith,
+        tally-length ps,
+        frees,
+        i .fitting,
+        tally-le (λ p. 1) _ (counts-one (r .decider .owner)) ps,
+        tally-add (λ p. misfitP (r .decider .owner) p + isFree (p .message)) (λ p. sumTo 16 (λ d. namesM d (p .message))) ps,
+        tally-add (misfitP (r .decider .owner)) (λ p. isFree (p .message)) ps,
+        sum-swap 16 (λ d p. namesM d (p .message)) ps,
+        sum-le 16 2 (λ d. tally (λ p. namesM d (p .message)) ps) named-below,
+      )
+
+mark-in-range : (m : Message) → inRange m ≡ true → markAll m ≤ sumTo 16 (λ d. markM d m)
+unfolding markAll markM one
+mark-in-range (Acquire c n false) e = omega arith
+mark-in-range (Acquire c n true) e = omega (arith, sum-one 16 (c .0) (ltb-true (c .0) 16 e))
+mark-in-range (Grant c n) e = omega arith
+mark-in-range (Release c) e = omega arith
+mark-in-range Free e = omega arith
+
+mark-fits : (o : Owner) (p : Packet) → markP p ≤ misfitP o p + sumTo 16 (λ d. markM d (p .message))
+unfolding misfitP markAll
+mark-fits o p =
+    bool-cases (fits o (p .carried .present) (p .to) (p .rejected) (p .carried .agent) (p .message))
+    (λ q. omega (arith, mark-in-range (p .message) (named-of _ _ _ _ _ (p .message) q)))
+    (λ q. let e : misfitP o p ≡ 1 = rw q in omega (arith, mark-one (p .message)))
+  where
+    mark-one : (m : Message) → markAll m ≤ 1
+    mark-one (Acquire c n false) = omega arith
+    mark-one (Acquire c n true) = omega arith
+    mark-one (Grant c n) = omega arith
+    mark-one (Release c) = omega arith
+    mark-one Free = omega arith
+
+pub absent-of : (s : AgentSlot) → agentS s ≡ 0 → s .present ≡ false
+unfolding agentS
+absent-of s e = bool-cases (s .present) (λ q. absurd (omega (arith, rw q at e))) (λ q. q)
+
+-- ---- at a free lock nothing is marked; where the incarnations agree nothing is
+mark-free : (x : Bool) (t : Address) (b : Bool) (a : Agent) (m : Message) → markAll m ≤ flag (not (fits Unowned x t b a m))
+unfolding fits markAll
+mark-free x t b a (Acquire c n false) = omega arith
+mark-free true t b a (Acquire c n true) = simp and-false (omega arith)
+mark-free false t b a (Acquire c n true) = simp and-false (omega arith)
+mark-free x t b a (Grant c n) = omega arith
+mark-free x t b a (Release c) = omega arith
+mark-free x t b a Free = omega arith
+
+pub silent-free : (r : LockState) → Inv r → r .decider .owner ≡ Unowned → tally markP (packets (r .wire)) ≡ 0
+unfolding misfitP
+silent-free r i o =
+    omega (
+      arith,
+      rw o at (i .fitting),
+      tally-le markP (misfitP Unowned) (λ p. mark-free (p .carried .present) (p .to) (p .rejected) (p .carried .agent) (p .message)) (packets (r .wire)),
+    )
+
+inc-zero : (s : AgentSlot) → agentS s ≡ 0 → incarnationS s ≡ 0
+inc-zero s e = absent s (absent-of s e) .incarnationS
+
+pub marks-bound : (r : LockState) → Inv r → tally markP (packets (r .wire)) ≤ 16
+marks-bound r i =
+    omega (
+      arith,
+      tally-le markP _ (mark-fits (r .decider .owner)) (packets (r .wire)),
+      tally-add (misfitP (r .decider .owner)) (λ p. sumTo 16 (λ d. markM d (p .message))) (packets (r .wire)),
+      i .fitting,
+      sum-swap 16 (λ d p. markM d (p .message)) (packets (r .wire)),
+      sum-le 16 1 (λ d. tally (λ p. markM d (p .message)) (packets (r .wire))) (marked-below r i),
+    )
+
+pub silent-equal : (r : LockState) (p : Packet) (rest : List Packet) (i : Inv r) → Split r (p ∷ []) rest → agentP p ≡ 1 → incarnationP p ≡ r .decider .incarnation
+    → tally markP (packets (r .wire)) ≡ 0
+unfolding weight tally ownedF
+silent-equal r p rest i sp h e =
+    let others : tally agentP rest + tally agentS (r .agents) ≡ 0 = omega (arith, i .agent, owned-one (r .decider .owner), sp .parts agentP) in
+    omega
+    (arith, i .incs, marks-bound r i, sp .parts incarnationP, tally-none agentP incarnationP (λ q. inc-zero (q .carried)) rest (omega arith), tally-none agentS incarnationS inc-zero (r .agents) (omega arith))
+
+pub free-inc : (r : LockState) → Inv r → r .decider .owner ≡ Unowned → r .decider .incarnation ≡ 0
+unfolding weight ownedF
+free-inc r i o =
+    let z : tally agentP (packets (r .wire)) + tally agentS (r .agents) ≡ 0 = rw o at (i .agent) in
+    omega
+    (arith, i .incs, silent-free r i o, tally-none agentP incarnationP (λ q. inc-zero (q .carried)) (packets (r .wire)) (omega arith), tally-none agentS incarnationS inc-zero (r .agents) (omega arith))
+
+pub same-mode : (m : Mode) → sameMode m m ≡ true
+same-mode Exclusive = refl
+same-mode Shared = refl
+
+-- ---- the agent in a packet: no other is anywhere
+pub rejected-carries : (o : Owner) (x : Bool) (t : Address) (b : Bool) (a : Agent) (m : Message) → flag b ≤ flag (not (fits o x t b a m)) + flag x
+unfolding fits
+rejected-carries o true t true a m = omega arith
+rejected-carries o true t false a m = omega arith
+rejected-carries o false t true a m = simp and-false (omega arith)
+rejected-carries o false t false a m = omega arith
+
+pub vacant-here : (s : AgentSlot) → agentS s ≡ 0 → vacantS s ≡ 0
+vacant-here s e = absent s (absent-of s e) .vacantS
+
+module _ (r : LockState) (p : Packet) (rest : List Packet) (i : Inv r) (sp : Split r (p ∷ []) rest) (h : agentP p ≡ 1) where
+  pub alone : tally agentP rest + tally agentS (r .agents) ≡ 0
+  unfolding weight tally
+  alone = omega (arith, i .agent, owned-one (r .decider .owner), sp .parts agentP)
+
+  pub no-others : tally rejectedP rest + tally vacantS (r .agents) ≡ 0
+  unfolding misfitP agentS tally
+  no-others =
+      omega (
+        arith,
+        alone,
+        tally-none agentS vacantS vacant-here (r .agents) (omega (arith, alone)),
+        tally-le rejectedP (λ q. misfitP (r .decider .owner) q + agentP q)
+            (λ q. rejected-carries (r .decider .owner) (q .carried .present) (q .to) (q .rejected) (q .carried .agent) (q .message)) rest,
+        tally-add (misfitP (r .decider .owner)) agentP rest,
+        i .fitting,
+        sp .parts (misfitP (r .decider .owner)),
+      )
+
+  pub differ : incarnationP p < 256 → (incarnationP p ≡ r .decider .incarnation → ⊥) → 1 ≤ tally markP (packets (r .wire))
+  unfolding weight tally
+  differ s n =
+      omega (
+        arith,
+        s,
+        n,
+        i .incs,
+        sp .parts incarnationP,
+        tally-none agentP incarnationP (λ q. inc-zero (q .carried)) rest (omega (arith, alone)),
+        tally-none agentS incarnationS inc-zero (r .agents) (omega (arith, alone)),
+      )
+
+-- ---- the agent at home: no packet carries one, no other machine has one
+module _ (r : LockState) (i : Inv r) (k : ℕ) (kk : k < 4) (a : Agent) (es : slotAt r k ≡ seated a) where
+  pub none-away : tally agentP (packets (r .wire)) ≡ 0
+  unfolding weight agentS
+  none-away = omega (arith, i .agent, owned-one (r .decider .owner), rw es at (tally-at agentS noAgent (r .agents) k (omega (arith, i .four))))
+
+  pub none-rejected : tally rejectedP (packets (r .wire)) ≡ 0
+  unfolding misfitP agentS
+  none-rejected =
+      omega (
+        arith,
+        none-away,
+        tally-le rejectedP (λ q. misfitP (r .decider .owner) q + agentP q)
+            (λ q. rejected-carries (r .decider .owner) (q .carried .present) (q .to) (q .rejected) (q .carried .agent) (q .message)) (packets (r .wire)),
+        tally-add (misfitP (r .decider .owner)) agentP (packets (r .wire)),
+        i .fitting,
+      )
+
+  -- where the machine gets a slot that is not vacant, no agent is
+  pub none-vacant : (s : AgentSlot) → vacantS s ≡ 0 → agentS s ≡ 1 → tally vacantS (set (r .agents) k s) ≡ 0
+  unfolding weight agentS vacantS noAgent
+  none-vacant s v h =
+      let room : k < length (r .agents) = omega (arith, i .four) in
+      let th : tally agentS (r .agents) ≡ 1 = omega (arith, i .agent, owned-one (r .decider .owner), rw es at (tally-at agentS noAgent (r .agents) k room)) in
+      let rs : tally vacantS (set (r .agents) k noAgent) ≡ 0 = tally-none agentS vacantS vacant-here (set (r .agents) k noAgent) (omega (arith, rw es at (tally-set agentS noAgent (r .agents) k noAgent room))) in
+      omega (arith, rs, v, rw es at (tally-set vacantS noAgent (r .agents) k s room), rw es at (tally-set vacantS noAgent (r .agents) k noAgent room))
+
+pub one-self : (c : ClientId) → one (c .0) c ≡ 1
+unfolding one
+one-self c = rw (eq-eqb (c .0) (c .0) refl)
+
+-- who is listed or marked is so once
+pub lists-one : (r : LockState) (i : Inv r) (d : ℕ) → weight (listedP d) (listedS d) r ≤ 1
+lists-one r i d = omega (arith, i .holds d, statuses (statusAt r d), asks r i d Exclusive, asks r i d Shared, owes r i d, i .rels d)
+
+-- who asks is neither listed nor marked
+pub asker-unlisted : (r : LockState) (rest : List Packet) (c : ClientId) (n : Mode) (t : Address) (b : Bool) (s : AgentSlot) (i : Inv r)
+    → Split r (record { message = Acquire c n false; to = t; rejected = b; carried = s } ∷ []) rest → weight (listedP (c .0)) (listedS (c .0)) r ≡ 0
+unfolding tally askM owedM releaseM
+asker-unlisted r rest c n t b s i sp =
+    omega (
+      arith,
+      i .holds (c .0),
+      statuses (statusAt r (c .0)),
+      asks r i (c .0) Exclusive,
+      asks r i (c .0) Shared,
+      sp .parts (λ p. askM (c .0) Exclusive (p .message)),
+      sp .parts (λ p. askM (c .0) Shared (p .message)),
+      hits (c .0) c n,
+      one-self c,
+      owes-list (c .0) rest,
+      sp .parts (owedP (c .0)),
+      sp .parts (releaseP (c .0)),
+      i .rels (c .0),
+    )
+
+-- a client that joins the holders
+pub joins-fits : (a : Agent) (o : Owner) (k c n : ℕ) → Home o k a → a .mode ≡ Shared → n < 256 → Home o k (changed a (set (a .holders) c true) (a .queue) n)
+joins-fits a o k c n h m s =
+    record { at = h .at; mode = h .mode; sized = length-set (a .holders) c true ∙ h .sized; few = rw m; small = s }
+
+pub joins-heads : (hs : List Bool) (c : ℕ) → c < length hs → tally flag (set hs c true) ≡ 0 → ⊥
+joins-heads hs c h z = omega (arith, z, tally-set flag false hs c true h, tally-at flag false hs c h)
+
+pub few-zero : (m : Mode) → few m 0 ≡ true
+few-zero Exclusive = refl
+few-zero Shared = refl
+
+pub flag-le : (b : Bool) → flag b ≤ 1
+flag-le true = omega arith
+flag-le false = omega arith
+
+pub drop-last : (a b c d : Bool) → (a && (b && (c && d))) ≡ true → (a && (b && c)) ≡ true
+drop-last true true true d e = refl
+drop-last true true false d e = e
+drop-last true false c d e = e
+drop-last false b c d e = e
+
+-- who has a GRANT on the wire waits, in its mode
+pub grant-waits : {r : LockState} {rest : List Packet} {c : ClientId} {n : Mode} {t : Address} {b : Bool} {x : AgentSlot} → Inv r
+    → Split r (record { message = Grant c n; to = t; rejected = b; carried = x } ∷ []) rest → statusAt r (c .0) ≡ Waiting n
+unfolding weight tally askM
+grant-waits {r} {rest} {c} {n} i sp = waiting-is n _ (omega (arith, i .waits (c .0) n, sp .parts (waitingP (c .0) n), hit-self c n, waits-one n (statusAt r (c .0))))
+
+pub exclusive-owner : (o : Owner) → ownedMode o Exclusive ≡ true → ownedShared o ≡ false
+exclusive-owner Unowned e = refl
+exclusive-owner (Owned Exclusive k) e = refl
+exclusive-owner (Owned Shared k) e = absurd (false≢true e)
+
+-- a rejected packet on the wire carries an agent
+pub rejected-carries-one : (r : LockState) (i : Inv r) (rest : List Packet) (p : Packet) → Split r (p ∷ []) rest → p .carried .present ≡ false → p .rejected ≡ true → ⊥
+unfolding misfitP
+rejected-carries-one r i rest p sp e f =
+    let g : flag (p .rejected) ≤ flag (not (fits (r .decider .owner) (p .carried .present) (p .to) (p .rejected) (p .carried .agent) (p .message))) + flag (p .carried .present) =
+    rejected-carries (r .decider .owner) (p .carried .present) (p .to) (p .rejected) (p .carried .agent) (p .message) in
+    omega (arith, came-fits r rest p i sp, g, ap flag e, ap flag f)

@@ -1,0 +1,36 @@
+-- The fresh lock satisfies the invariant.
+use Rattle.theorems.specs.Names.{Idle, _≡_, refl, [], ℕ, zero, suc, arith, getD, replicate, idle, noAgent, freshLock, packets-of}
+use Rattle.theorems.specs.Tally.{tally}
+use Rattle.theorems.specs.Weights.{statusAt, slotAt, weight, queuedS, listedS, agentS, incarnationS, vacantS, waitF, holdF, idleF, ownedF, clash, misfitS}
+use Rattle.theorems.specs.Invariant.{Inv}
+
+all-same : {A : Type 0} (x : A) (n d : ℕ) → getD (replicate n x) d x ≡ x
+all-same x zero d = refl
+all-same x (suc n) zero = refl
+all-same x (suc n) (suc d) = all-same x n d
+
+pub all-idle : (d : ℕ) → statusAt freshLock d ≡ Idle
+unfolding freshLock
+all-idle d = rw (statusAt, all-same idle 16 d)
+
+no-slot : (k : ℕ) → slotAt freshLock k ≡ noAgent
+unfolding freshLock
+no-slot k = all-same noAgent 4 k
+
+pub inv-fresh : Inv freshLock
+unfolding freshLock noAgent tally weight queuedS listedS agentS incarnationS waitF holdF idleF ownedF clash misfitS vacantS
+inv-fresh =
+    record {
+      four = refl;
+      sixteen = refl;
+      waits = λ d m. rw (packets-of [], all-idle d);
+      holds = λ d. rw (packets-of [], all-idle d);
+      rels = λ d. rw (packets-of [], all-idle d) (omega arith);
+      agent = rw (packets-of []);
+      incs = rw (packets-of []);
+      modes = λ d. rw (all-idle d);
+      fitting = rw (packets-of []);
+      homes = λ k. rw (no-slot k);
+      reach = rw (packets-of []);
+      vacancy = rw (packets-of []) (omega arith);
+    }

@@ -1,0 +1,26 @@
+-- The invariant of one lock's state.
+use Rattle.theorems.specs.Names.{_≡_, ℕ, _+_, _≤_, _%_, length, Mode, LockState, packets}
+use Rattle.theorems.specs.Tally.{tally}
+use Rattle.theorems.specs.Weights.{statusAt, slotAt, weight, waitingP, queuedS, listedP, listedS, owedP, releaseP, agentP, agentS, incarnationP, incarnationS, markP, rejectedP, vacantS, waitF, holdF, idleF, ownedF, clash, farF, farP, misfitP, misfitS}
+
+pub record Inv (r : LockState) : Type 0 where
+  pub four : length (r .agents) ≡ 4
+  pub sixteen : length (r .clients) ≡ 16
+  -- a client that waits in a mode has one unmarked ACQUIRE, one GRANT or one place in a queue; any other has none
+  pub waits : (d : ℕ) (m : Mode) → weight (waitingP d m) (queuedS d m) r ≡ waitF m (statusAt r d)
+  -- it is listed, or to be listed by a marked ACQUIRE, as often as it holds, or is owed a GRANT, or has a RELEASE under way
+  pub holds : (d : ℕ) → weight (listedP d) (listedS d) r ≡ holdF (statusAt r d) + tally (owedP d) (packets (r .wire))
+  -- at most one RELEASE, and of an idle client
+  pub rels : (d : ℕ) → tally (releaseP d) (packets (r .wire)) ≤ idleF (statusAt r d)
+  -- one agent, on a machine or in a packet, if the lock is owned; else none
+  pub agent : weight agentP agentS r ≡ ownedF (r .decider .owner)
+  -- the decider's incarnation is the agent's and one more for each mark on the wire
+  pub incs : r .decider .incarnation ≡ (weight incarnationP incarnationS r + tally markP (packets (r .wire))) % 256
+  -- a client that holds, holds in the lock's mode
+  pub modes : (d : ℕ) → clash (r .decider .owner) (statusAt r d) ≡ 0
+  -- packets and agents fit the lock's owner
+  pub fitting : tally (misfitP (r .decider .owner)) (packets (r .wire)) ≡ 0
+  pub homes : (k : ℕ) → misfitS (r .decider .owner) k (slotAt r k) ≡ 0
+  pub reach : farF (r .decider .owner) + tally farP (packets (r .wire)) ≡ 0
+  -- an agent on a machine that lists nobody, and a rejected packet, mean a mark on the wire
+  pub vacancy : weight rejectedP vacantS r ≤ tally markP (packets (r .wire))

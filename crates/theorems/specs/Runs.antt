@@ -1,0 +1,65 @@
+-- Calls and lists of calls: each keeps the invariant of every lock, and no call is refused with 9 to 14.
+use Rattle.laws.specs.Opened.{lockOf, stepOf, Allowed, may-acquire, may-release, may-deliver, Opened, denied, passed, opened, perform-here}
+use Rattle.laws.specs.Clusters.{fresh-formed, perform-formed, perform-keeps}
+use Rattle.theorems.specs.Names.{LockId, LockState, Cluster, Call, Refusal, Accepted, Outcome, _≡_, refl, ap, _∙_, true, List, [], _∷_, ℕ, zero, suc, _≤_, arith, getD, replicate, clientOf, modeOf, lockIn, freshLock, fresh, lockFormed, wellFormed, refusing, after, settled, perform, run, refusalNumber, number}
+use Rattle.theorems.specs.Invariant.{Inv}
+use Rattle.theorems.specs.Fresh.{inv-fresh}
+use Rattle.theorems.specs.Steps.{Sound, sound-acquire, sound-release, sound-deliver}
+
+pub sound-step : (a : Call) (s : LockState) → Allowed a s → Inv s → Sound (stepOf a s)
+sound-step _ s (may-acquire {l = l} {k = k} {t = t} {m = m} kb tb n id u) i = sound-acquire s i (clientOf k t) (modeOf m) (omega arith) id u
+sound-step _ s (may-release {k = k} {t = t} kb tb n h) i = sound-release s i (clientOf k t) n (omega arith) h
+sound-step _ s (may-deliver {i = j} h) i = sound-deliver s i j h
+
+pub step-keeps : (a : Call) (s : LockState) → Allowed a s → lockFormed s ≡ true → Inv s → Inv (stepOf a s .state)
+step-keeps a s al f i = sound-step a s al i .inv
+
+-- ---- a cluster that a list of calls leads to
+pub record Reached (x : Cluster) : Type 0 where
+  pub formed : wellFormed x ≡ true
+  pub invs : (l : LockId) → Inv (lockIn x l)
+
+same-lock : (n d : ℕ) → getD (replicate n freshLock) d freshLock ≡ freshLock
+same-lock zero d = refl
+same-lock (suc n) zero = refl
+same-lock (suc n) (suc d) = same-lock n d
+
+pub lock-fresh : (l : LockId) → lockIn fresh l ≡ freshLock
+unfolding fresh
+lock-fresh l = same-lock 8 (l .0)
+
+pub reached-fresh : Reached fresh
+reached-fresh = record { formed = fresh-formed; invs = λ l. rw (lock-fresh l) inv-fresh }
+
+pub reached-next : (a : Call) (x : Cluster) → Reached x → Reached (perform a x .cluster)
+reached-next a x h = record { formed = perform-formed a x (h .formed); invs = λ l. perform-keeps Inv step-keeps a x l (h .formed) (h .invs l) }
+
+pub reached-run : (cs : List Call) (x : Cluster) → Reached x → Reached (run cs x)
+unfolding run
+reached-run [] x h = h
+reached-run (a ∷ cs) x h = reached-run cs (perform a x .cluster) (reached-next a x h)
+
+pub reached : (cs : List Call) → Reached (after cs)
+reached cs = reached-run cs fresh reached-fresh
+
+-- ---- a call on such a cluster: denied by a test, or accepted
+pub data Answered (a : Call) (x : Cluster) : Type 0 where
+  denied-by : (r : Refusal) → refusalNumber r ≤ 8 → perform a x ≡ refusing r x → Answered a x
+  accepted-by : Allowed a (lockIn x (lockOf a)) → perform a x .answer ≡ Accepted → lockIn (perform a x .cluster) (lockOf a) ≡ stepOf a (lockIn x (lockOf a)) .state → Answered a x
+
+pub answered : (a : Call) (x : Cluster) → Reached x → Answered a x
+unfolding settled
+answered a x h = go (opened a x (h .formed))
+  where
+    go : Opened a x → Answered a x
+    go (denied r m n e) = denied-by r n e
+    go (passed b al e) =
+        accepted-by al (ap (λ (o : Outcome). o .answer) e ∙ rw (sound-step a (lockIn x (lockOf a)) al (h .invs (lockOf a)) .taken)) (perform-here a x (h .formed) b e)
+
+-- the number of each answer is at most 8
+pub number-below : (a : Call) (x : Cluster) → Reached x → number (perform a x .answer) ≤ 8
+number-below a x h = go (answered a x h)
+  where
+    go : Answered a x → number (perform a x .answer) ≤ 8
+    go (denied-by r n e) = rw e n
+    go (accepted-by al e q) = rw e (omega arith)

@@ -1,0 +1,44 @@
+-- What holds after every list of acquires, releases and deliveries, with any arguments, that starts from a fresh bench. Only the
+-- statements: Theorems has a proof of each for every list. Locks above 7 and clients above 15 read as fresh ones and as idle.
+use Rattle.laws.specs.Opened.{lockOf}
+use Rattle.theorems.specs.Names.{LockId, ClientId, Mode, Exclusive, Holding, Cluster, Call, Answer, _≡_, true, List, [], _∷_, ℕ, _≤_, _<_, length, eqb, leb, all, statusOf, lockIn, packets, fresh, wellFormed, current, packetAt, answersOf, after, perform, number, phaseAfter}
+use Rattle.theorems.specs.Tally.{tally}
+use Rattle.theorems.specs.Weights.{markP}
+
+-- A bench outside these bounds is malformed (refusal 11): none is that a list leads to.
+abbrev pub StaysFormed : List Call → Type 0
+StaysFormed cs = wellFormed (after cs) ≡ true
+
+-- Only a bench made by hand meets 9, 10 or 14: each call of the list is answered with 0 to 8.
+abbrev pub NeverRefusedInside : List Call → Type 0
+NeverRefusedInside cs = all (λ (a : Answer). leb (number a) 8) (answersOf cs fresh) ≡ true
+
+-- The wire: at most 33 packets.
+abbrev pub WireBounded : List Call → Type 0
+WireBounded cs = (l : LockId) → length (packets (lockIn (after cs) l .wire)) ≤ 33
+
+-- A lock's record is all that the bench has for it: a further call leaves the records of the other locks as they were.
+abbrev pub OthersUntouched : List Call → Type 0
+OthersUntouched cs = (a : Call) (l : LockId) → (l .0 ≡ lockOf a .0 → ⊥) → lockIn (perform a (after cs) .cluster) l ≡ lockIn (after cs) l
+
+-- Two clients never hold a lock at once where one of them holds it exclusively: by the bench's statuses,
+abbrev pub Exclusion : List Call → Type 0
+Exclusion cs =
+    (l : LockId) (c d : ClientId) (m : Mode) → (c .0 ≡ d .0 → ⊥)
+    → statusOf (lockIn (after cs) l) c ≡ Holding Exclusive → statusOf (lockIn (after cs) l) d ≡ Holding m → ⊥
+
+-- After every such list the bench's status for each client and lock says the same as the trace, which is read from what the calls do.
+abbrev pub TraceAgrees : List Call → Type 0
+TraceAgrees cs = (l : LockId) (c : ClientId) → statusOf (lockIn (after cs) l) c ≡ phaseAfter l c cs
+
+-- and so by the trace.
+abbrev pub ExclusionOfTrace : List Call → Type 0
+ExclusionOfTrace cs =
+    (l : LockId) (c d : ClientId) (m : Mode) → (c .0 ≡ d .0 → ⊥) → phaseAfter l c cs ≡ Holding Exclusive → phaseAfter l d cs ≡ Holding m → ⊥
+
+-- The incarnation has eight bits; equality stays sound because at most 16 marked copies are outstanding: wherever an agent is in a
+-- packet, the incarnations are equal exactly when no marked ACQUIRE is on the wire.
+pub record IncarnationSound (cs : List Call) : Type 0 where
+  pub bounded : (l : LockId) → tally markP (packets (lockIn (after cs) l .wire)) ≤ 16
+  pub sound : (l : LockId) (i : ℕ) → i < length (packets (lockIn (after cs) l .wire)) → packetAt (lockIn (after cs) l) i .carried .present ≡ true
+      → current (lockIn (after cs) l) (packetAt (lockIn (after cs) l) i) ≡ eqb (tally markP (packets (lockIn (after cs) l .wire))) 0

@@ -1,0 +1,74 @@
+-- The proofs of the statements, for every list of calls.
+use Rattle.laws.specs.Opened.{perform-elsewhere}
+use Rattle.theorems.specs.Names.{Packet, LockState, Cluster, Call, Answer, _≡_, refl, sym, ap, _∙_, true, List, [], _∷_, ℕ, _≤_, _<_, arith, length, eqb, leb, eqb-true, eqb-false, eq-eqb, ne-eqb, le-leb, all, removed, statusOf, lockIn, packets, fresh, current, packetAt, answersOf, after, perform, number, unseen, both, bool-cases}
+use Rattle.theorems.specs.Tally.{tally}
+use Rattle.theorems.specs.Weights.{agentS, agentP, incarnationS, incarnationP, markP, fits, misfitP}
+use Rattle.theorems.specs.Invariant.{Inv}
+use Rattle.theorems.specs.Keep.{Split, split-at}
+use Rattle.theorems.specs.Facts.{fit, came-fits, away-of, wire-bound, marks-bound, silent-equal, differ}
+use Rattle.theorems.specs.Fresh.{all-idle}
+use Rattle.theorems.specs.Exclusion.{carried-away, one-exclusive}
+use Rattle.theorems.specs.Runs.{Reached, lock-fresh, reached-fresh, reached-next, reached, number-below}
+use Rattle.theorems.specs.Traced.{agrees}
+use Rattle.theorems.specs.Statements.{StaysFormed, NeverRefusedInside, WireBounded, OthersUntouched, Exclusion, TraceAgrees, ExclusionOfTrace, IncarnationSound}
+
+pub stays-formed : (cs : List Call) → StaysFormed cs
+stays-formed cs = reached cs .formed
+
+answers-below : (cs : List Call) (x : Cluster) → Reached x → all (λ (a : Answer). leb (number a) 8) (answersOf cs x) ≡ true
+answers-below [] x h = refl
+answers-below (a ∷ cs) x h = both _ _ (le-leb _ 8 (number-below a x h)) (answers-below cs (perform a x .cluster) (reached-next a x h))
+
+pub never-refused-inside : (cs : List Call) → NeverRefusedInside cs
+never-refused-inside cs = answers-below cs fresh reached-fresh
+
+pub wire-bounded : (cs : List Call) → WireBounded cs
+wire-bounded cs l = wire-bound (lockIn (after cs) l) (reached cs .invs l)
+
+pub others-untouched : (cs : List Call) → OthersUntouched cs
+others-untouched cs a l n = perform-elsewhere a (after cs) l n
+
+pub exclusion : (cs : List Call) → Exclusion cs
+exclusion cs l c d m n hc hd = one-exclusive (lockIn (after cs) l) (reached cs .invs l) (c .0) (d .0) m n hc hd
+
+pub trace-agrees : (cs : List Call) → TraceAgrees cs
+trace-agrees cs l c = sym (agrees cs l c fresh unseen reached-fresh (sym (ap (λ (s : LockState). statusOf s c) (lock-fresh l) ∙ all-idle (c .0))))
+
+pub exclusion-of-trace : (cs : List Call) → ExclusionOfTrace cs
+exclusion-of-trace cs l c d m n hc hd = exclusion cs l c d m n (trace-agrees cs l c ∙ hc) (trace-agrees cs l d ∙ hd)
+
+-- an agent in a packet: equal incarnations and no mark, or neither
+module _ (s : LockState) (i : Inv s) (j : ℕ) (h : j < length (packets (s .wire))) (e : packetAt s j .carried .present ≡ true) where
+  abbrev p : Packet
+  p = packetAt s j
+
+  sp : Split s (p ∷ []) (removed (packets (s .wire)) j)
+  sp = split-at s j p h refl
+
+  carries : agentP p ≡ 1
+  unfolding agentS
+  carries = rw e
+
+  carried : incarnationP p ≡ p .carried .agent .incarnation
+  unfolding incarnationS
+  carried = rw e
+
+  small : p .carried .agent .incarnation < 256
+  unfolding misfitP
+  small =
+      let f : fits (s .decider .owner) (p .carried .present) (p .to) (p .rejected) (p .carried .agent) (p .message) ≡ true = fit _ (came-fits s _ p i sp) in
+      away-of (p .carried .agent) (carried-away (s .decider .owner) (p .to) (p .rejected) (p .carried .agent) (p .message) (rw e at f)) .small
+
+  current-sound : current s p ≡ eqb (tally markP (packets (s .wire))) 0
+  current-sound =
+      bool-cases (current s p) (λ q. q ∙ sym (eq-eqb _ 0 (silent-equal s p _ i sp carries (carried ∙ eqb-true _ _ q))))
+      (λ q.
+      let d : 1 ≤ tally markP (packets (s .wire)) = differ s p _ i sp carries (omega (arith, carried, small)) (λ w. eqb-false _ _ q (sym carried ∙ w)) in
+      q ∙ sym (ne-eqb (tally markP (packets (s .wire))) 0 (λ z. omega (arith, z, d))))
+
+pub incarnation-sound : (cs : List Call) → IncarnationSound cs
+incarnation-sound cs =
+    record {
+      bounded = λ l. marks-bound (lockIn (after cs) l) (reached cs .invs l);
+      sound = λ l j h e. current-sound (lockIn (after cs) l) (reached cs .invs l) j h e;
+    }
