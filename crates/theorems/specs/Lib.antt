@@ -28,3 +28,10 @@ pub mod Runs
 pub mod Traced
 pub mod Statements
 pub mod Theorems
+-- ---- the drain: its bound, and how it ends
+pub mod DrainStatement
+pub mod Work
+pub mod Distance
+pub mod Falls
+pub mod Quiescence
+pub mod Drains

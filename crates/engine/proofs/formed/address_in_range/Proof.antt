@@ -1,0 +1,20 @@
+use Rattle.engine.proofs.Base.{needs}
+use Rattle.engine.proofs.formed.address_in_range.Statement.{statement}
+use Rattle.engine.proofs.formed.address_in_range.Tie as tie
+
+enum-told : tie.Need-enum-told
+enum-told c = search needs
+
+returns : tie.Need-returns
+returns c = search needs
+
+enum-known-t : tie.Need-enum-known-t
+enum-known-t c = search needs
+
+returns-2 : tie.Need-returns-2
+returns-2 c = rw (c .before .before .t .given .1)
+
+pub address-in-range-spec : {M : Type 1} → statement M
+address-in-range-spec =
+    tie.close
+    (tie.spec enum-told enum-known-t returns returns-2)

@@ -1,0 +1,97 @@
+-- Well-formedness: the one pass over a queue that tests ranges and that no client stands twice.
+use mathlib.Core.Path.{_≡_, refl, sym, _∙_}
+use mathlib.Core.Bool.{Bool, true, false, _&&_, _||_, not, and-true, and-false}
+use mathlib.Core.List.{List, [], _∷_}
+use Prim.Native.Nat.{ℕ, zero, suc, _+_, _<_, _≤_}
+use native.Mathlib.Omega.{arith}
+use native.Mathlib.Decide.{ℕ-discrete}
+use lib.ListN.{length, take, drop, getD, set, replicate, length-set}
+use lib.Seq.{getD-set-same, getD-set-other}
+use lib.Dec.{eqb, leb}
+use borrow.Author.Tests.{leb-true, ltb-true, lt-ltb, le-ltb, eq-eqb, ne-eqb}
+use Rattle.engine.specs.Names.{ClientId, Waiter}
+use Rattle.model.specs.Lists.{any, all}
+use Rattle.model.specs.WellFormed.{shaped, isClient, distinct, waiterInRange}
+use Rattle.laws.specs.Tests.{and-left, and-right, bool-cases}
+use Rattle.engine.specs.Scans.{opened, closed}
+
+pub shaped-short : {A : Type 0} (n : ℕ) (p : A → Bool) (slots : List A) (len : ℕ) → shaped n p slots len ≡ true → len ≤ n
+unfolding shaped
+shaped-short n p slots len e = leb-true len n (and-left (leb len n) _ (and-right (eqb (length slots) n) _ e))
+
+-- the waiter's client is not in the set
+abbrev pub isNew : List Bool → Waiter → Bool
+isNew seen w = not (getD seen (w .client .0) false)
+
+-- clients in range, each one new to those seen before it
+unfoldable pub allNew : List Bool → List Waiter → Bool
+allNew seen [] = true
+allNew seen (w ∷ ws) = waiterInRange w && (isNew seen w && allNew (set seen (w .client .0) true) ws)
+
+-- new to a set with one more client: another than that one, and new to the set
+new-more : (seen : List Bool) (c : ClientId) (w : Waiter) → c .0 < length seen → isNew (set seen (c .0) true) w ≡ (not (isClient c w) && isNew seen w)
+new-more seen c w h = go (ℕ-discrete (w .client .0) (c .0))
+  where
+    go : Dec (w .client .0 ≡ c .0) → isNew (set seen (c .0) true) w ≡ (not (isClient c w) && isNew seen w)
+    go (yes q) = rw (q, eq-eqb (c .0) (c .0) refl, getD-set-same seen (c .0) true false h)
+    go (no q) = rw (ne-eqb (w .client .0) (c .0) q, getD-set-other seen (c .0) (w .client .0) true false q)
+
+and-swap : (n b s a : Bool) → ((not n && s) && (not b && a)) ≡ (not (n || b) && (s && a))
+and-swap true b s a = refl
+and-swap false true s a = and-false s
+and-swap false false s a = refl
+
+all-new-more : (seen : List Bool) (c : ClientId) (ws : List Waiter) → c .0 < length seen → all (isNew (set seen (c .0) true)) ws ≡ (not (any (isClient c) ws) && all (isNew seen) ws)
+all-new-more seen c [] h = refl
+all-new-more seen c (w ∷ ws) h =
+    rw (new-more seen c w h, all-new-more seen c ws h) (and-swap (isClient c w) (any (isClient c) ws) (isNew seen w) (all (isNew seen) ws))
+
+regroup : (s r d a n : Bool) → (s && (r && (d && (a && n)))) ≡ (r && ((a && d) && (s && n)))
+regroup true true d true n = refl
+regroup true true d false n = and-false d
+regroup true false d a n = refl
+regroup false true d a n = sym (and-false (a && d))
+regroup false false d a n = refl
+
+pub one-pass : (seen : List Bool) (ws : List Waiter) → length seen ≡ 16 → allNew seen ws ≡ (all waiterInRange ws && (distinct ws && all (isNew seen) ws))
+unfolding allNew distinct
+one-pass seen [] e = refl
+one-pass seen (w ∷ ws) e =
+    bool-cases
+    (waiterInRange w)
+    (λ q.
+    let h : w .client .0 < length seen = omega (arith, ltb-true (w .client .0) 16 q) in
+    rw (q, one-pass (set seen (w .client .0) true) ws (length-set seen (w .client .0) true ∙ e), all-new-more seen (w .client) ws h)
+    (regroup (isNew seen w) (all waiterInRange ws) (distinct ws) (not (any (isClient (w .client)) ws)) (all (isNew seen) ws)))
+    (λ q. rw q)
+
+-- from no client seen
+none-seen : (n k : ℕ) → getD (replicate n false) k false ≡ false
+none-seen zero k = refl
+none-seen (suc n) zero = refl
+none-seen (suc n) (suc k) = none-seen n k
+
+all-unseen : (ws : List Waiter) → all (isNew (replicate 16 false)) ws ≡ true
+all-unseen [] = refl
+all-unseen (w ∷ ws) = rw (none-seen 16 (w .client .0)) (all-unseen ws)
+
+pub pass-whole : (ws : List Waiter) → allNew (replicate 16 false) ws ≡ (all waiterInRange ws && distinct ws)
+pass-whole ws = rw (one-pass (replicate 16 false) ws refl, all-unseen ws, and-true (distinct ws))
+
+-- the steps of the pass over the first n
+module _ (xs : List Waiter) (n j : ℕ) (d : Waiter) (k : n ≤ length xs) (seen : List Bool) where
+  pub pass-far : j < n → 16 ≤ getD xs j d .client .0 → allNew seen (drop j (take n xs)) ≡ false
+  unfolding allNew
+  pass-far h q = rw (opened xs n j d k h, le-ltb (getD xs j d .client .0) 16 q)
+
+  pub pass-twice : j < n → getD xs j d .client .0 < 16 → getD seen (getD xs j d .client .0) false ≡ true → allNew seen (drop j (take n xs)) ≡ false
+  unfolding allNew
+  pass-twice h q e = rw (opened xs n j d k h, lt-ltb (getD xs j d .client .0) 16 q, e)
+
+  pub pass-next : j < n → getD xs j d .client .0 < 16 → getD seen (getD xs j d .client .0) false ≡ false → allNew (set seen (getD xs j d .client .0) true) (drop (j + 1) (take n xs)) ≡ allNew seen (drop j (take n xs))
+  unfolding allNew
+  pass-next h q e = rw (opened xs n j d k h, lt-ltb (getD xs j d .client .0) 16 q, e)
+
+  pub pass-end : n ≤ j → allNew seen (drop j (take n xs)) ≡ true
+  unfolding allNew
+  pass-end h = rw (closed xs n j d k h)

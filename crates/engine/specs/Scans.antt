@@ -1,0 +1,62 @@
+-- Loops over the used part of an array, `take n xs`: what is left of it from j on, and a test over that.
+use mathlib.Core.Path.{_≡_}
+use mathlib.Core.Bool.{Bool, true, false, _&&_, and-assoc, and-true}
+use mathlib.Core.List.{List, [], _∷_}
+use Prim.Native.Nat.{ℕ, _+_, _<_, _≤_}
+use native.Mathlib.Numerals.{add-one}
+use native.Mathlib.Omega.{arith}
+use lib.ListN.{length, take, drop, getD, drop-of-length-le}
+use lib.Seq.{drop-cons, getD-take, length-take-le}
+use Rattle.model.specs.Lists.{any, all}
+
+module _ {A : Type 0} where
+  -- a loop over all of xs keeps `any p (drop j xs) ≡ any p xs`
+  module _ (p : A → Bool) (xs : List A) (j : ℕ) (d : A) where
+    pub any-hit : j < length xs → p (getD xs j d) ≡ true → any p (drop j xs) ≡ true
+    any-hit h e = rw (drop-cons xs j d, e)
+
+    pub any-miss : j < length xs → p (getD xs j d) ≡ false → any p (drop (j + 1) xs) ≡ any p (drop j xs)
+    any-miss h e = rw (add-one, drop-cons xs j d, e)
+
+    pub any-none : length xs ≤ j → any p (drop j xs) ≡ false
+    any-none h = rw drop-of-length-le
+
+  -- the first of what is left of the used part, and its end
+  module _ (xs : List A) (n j : ℕ) (d : A) (k : n ≤ length xs) where
+    pub opened : j < n → drop j (take n xs) ≡ getD xs j d ∷ drop (j + 1) (take n xs)
+    opened h =
+        let e : length (take n xs) ≡ n = length-take-le n xs k in
+        let q : j < length (take n xs) = omega arith in
+        rw (add-one, drop-cons (take n xs) j d q, getD-take)
+
+    pub closed : n ≤ j → drop j (take n xs) ≡ []
+    closed h =
+        let e : length (take n xs) ≡ n = length-take-le n xs k in
+        let q : length (take n xs) ≤ j = omega arith in
+        drop-of-length-le (take n xs) q
+
+  module _ (p : A → Bool) (xs : List A) (n j : ℕ) (d : A) (k : n ≤ length xs) where
+    pub used-hit : j < n → p (getD xs j d) ≡ true → any p (drop j (take n xs)) ≡ true
+    used-hit h e = rw (opened xs n j d k h, e)
+
+    pub used-miss : j < n → p (getD xs j d) ≡ false → any p (drop (j + 1) (take n xs)) ≡ any p (drop j (take n xs))
+    used-miss h e = rw (opened xs n j d k h, e)
+
+    pub used-none : n ≤ j → any p (drop j (take n xs)) ≡ false
+    used-none h = rw (closed xs n j d k h)
+
+  -- a loop over all of xs that joins a test of each: what was joined so far, with the test of all that are left, is the test of all
+  module _ (p : A → Bool) (xs : List A) (ok : Bool) (j : ℕ) (d : A) where
+    pub join-next : j < length xs → ((ok && p (getD xs j d)) && all p (drop (j + 1) xs)) ≡ (ok && all p (drop j xs))
+    join-next h = rw (add-one, drop-cons xs j d) (and-assoc ok _ _)
+
+    pub join-end : length xs ≤ j → (ok && all p (drop j xs)) ≡ ok
+    join-end h = rw drop-of-length-le (and-true ok)
+
+  -- and over the used part
+  module _ (xs : List A) (n j : ℕ) (d : A) (k : n ≤ length xs) (p : A → Bool) (ok : Bool) where
+    pub first-next : j < n → ((ok && p (getD xs j d)) && all p (drop (j + 1) (take n xs))) ≡ (ok && all p (drop j (take n xs)))
+    first-next h = rw (opened xs n j d k h) (and-assoc ok _ _)
+
+    pub first-end : n ≤ j → (ok && all p (drop j (take n xs))) ≡ ok
+    first-end h = rw (closed xs n j d k h) (and-true ok)

@@ -1,0 +1,364 @@
+// Well-formedness: the test of refusal 11. Tests of a whole are joined by `&` and not by early returns: nearly always all of them hold,
+// and a loop without a way out is compiled to a few wide operations.
+use model::Address;
+use model::Agent;
+use model::AgentSlot;
+use model::ClientId;
+use model::ClientState;
+use model::Cluster;
+use model::LockState;
+use model::Message;
+use model::Mode;
+use model::Owner;
+use model::Packet;
+use model::Queue;
+use model::Waiter;
+use model::Wire;
+ghost use mathlib.Core.Path.{_≡_};
+ghost use mathlib.Core.Bool.{_&&_, _||_, not};
+ghost use Prim.Native.Nat.{_≤_};
+ghost use lib.ListN.{length, take};
+ghost use lib.Dec.{eqb};
+ghost use Rattle.model.specs.Lists.{all};
+ghost use Rattle.model.specs.States.{isShared};
+ghost use Rattle.model.specs.declared.Message.the-variants.{Free};
+ghost use Rattle.model.specs.WellFormed.{clientInRange, ownerInRange, addressInRange, shaped, isBlankWaiter, distinct, waiterInRange, queueFormed, agentFormed, isBlankAgent, slotFormed, toDecider, messageFormed, packetFormed, isFree, isBlankPacket, wireFormed, lockFormed, wellFormed};
+
+// ---- blank slots
+fn is_exclusive(m: Mode) -> bool
+    ensures { λ r. ⌜ r ≡ not (isShared m) ⌝ }
+{
+    match m {
+        Mode::Exclusive => true,
+        Mode::Shared => false,
+    }
+}
+
+pub fn is_blank_waiter(w: Waiter) -> bool
+    ensures { λ r. ⌜ r ≡ isBlankWaiter w ⌝ }
+{
+    let c = w.client;
+    let m = w.mode;
+    let e = is_exclusive(m);
+    (c.0 == 0) & e
+}
+
+fn blank_waiters(a: [Waiter; 16]) -> bool
+    ensures { λ r. ⌜ r ≡ shaped 16 isBlankWaiter a 0 ⌝ }
+{
+    let mut ok = true;
+    let mut j: usize = 0;
+    while j < 16 {
+        let w = a[j];
+        let b = is_blank_waiter(w);
+        ok = ok & b;
+        j += 1;
+    }
+    ok
+}
+
+fn no_holder(h: [bool; 16]) -> bool
+    ensures { λ r. ⌜ r ≡ (eqb (length h) 16 && all not h) ⌝ }
+{
+    let mut ok = true;
+    let mut j: usize = 0;
+    while j < 16 {
+        ok = ok & !h[j];
+        j += 1;
+    }
+    ok
+}
+
+pub fn is_blank_agent(a: Agent) -> bool
+    ensures { λ r. ⌜ r ≡ isBlankAgent a ⌝ }
+{
+    let m = a.mode;
+    let h = a.holders;
+    let q = a.queue;
+    let s = q.slots;
+    let exclusive = is_exclusive(m);
+    let unheld = no_holder(h);
+    let empty = blank_waiters(s);
+    exclusive & (unheld & (empty & ((q.len == 0) & (a.incarnation == 0))))
+}
+
+fn is_free(m: Message) -> bool
+    ensures { λ r. ⌜ r ≡ isFree m ⌝ }
+{
+    match m {
+        Message::Free => true,
+        Message::Acquire {
+            client: _,
+            mode: _,
+            granted: _,
+        } => false,
+        Message::Grant { client: _, mode: _ } => false,
+        Message::Release { client: _ } => false,
+    }
+}
+
+fn to_decider(t: Address) -> bool
+    ensures { λ r. ⌜ r ≡ toDecider t ⌝ }
+{
+    match t {
+        Address::Decider => true,
+        Address::Machine(_) => false,
+    }
+}
+
+pub fn is_blank_packet(p: Packet) -> bool
+    ensures { λ r. ⌜ r ≡ isBlankPacket p ⌝ }
+{
+    let m = p.message;
+    let t = p.to;
+    let x = p.carried;
+    let free = is_free(m);
+    let at_decider = to_decider(t);
+    let blank = is_blank_agent(x.agent);
+    free & (at_decider & (!p.rejected & (!x.present & blank)))
+}
+
+// ---- a queue and an agent
+pub fn shaped_waiters(a: [Waiter; 16], n: usize) -> bool
+    ensures { λ r. ⌜ r ≡ shaped 16 isBlankWaiter a n ⌝ }
+{
+    let mut ok = n <= 16;
+    let mut j = n;
+    while j < 16 {
+        let w = a[j];
+        let b = is_blank_waiter(w);
+        ok = ok & b;
+        j += 1;
+    }
+    ok
+}
+
+// One pass over the first n, with the set of the clients seen so far.
+pub fn waiters_formed(a: [Waiter; 16], n: usize) -> bool
+    requires { ⌜ n ≤ 16 ⌝ }
+    ensures { λ r. ⌜ r ≡ (all waiterInRange (take n a) && distinct (take n a)) ⌝ }
+{
+    let mut seen = [false; 16];
+    let mut j: usize = 0;
+    while j < n {
+        let w = a[j];
+        let c = w.client;
+        let i = c.0 as usize;
+        if 16 <= i {
+            return false;
+        }
+        if seen[i] {
+            return false;
+        }
+        seen[i] = true;
+        j += 1;
+    }
+    true
+}
+
+pub fn queue_formed(q: Queue) -> bool
+    ensures { λ r. ⌜ r ≡ queueFormed q ⌝ }
+{
+    let a = q.slots;
+    let n = q.len as usize;
+    if shaped_waiters(a, n) {
+        waiters_formed(a, n)
+    } else {
+        false
+    }
+}
+
+// An array's length is known of a parameter, and so to its callers.
+fn has_all_holders(h: [bool; 16]) -> bool
+    ensures { λ r. ⌜ r ≡ eqb (length h) 16 ⌝ }
+{
+    true
+}
+
+pub fn agent_formed(a: Agent) -> bool
+    ensures { λ r. ⌜ r ≡ agentFormed a ⌝ }
+{
+    let h = a.holders;
+    let holders = has_all_holders(h);
+    let queue = queue_formed(a.queue);
+    holders & queue
+}
+
+pub fn slot_formed(x: AgentSlot) -> bool
+    ensures { λ r. ⌜ r ≡ slotFormed x ⌝ }
+{
+    if x.present {
+        agent_formed(x.agent)
+    } else {
+        is_blank_agent(x.agent)
+    }
+}
+
+// ---- a packet
+pub fn address_in_range(t: Address) -> bool
+    ensures { λ r. ⌜ r ≡ addressInRange t ⌝ }
+{
+    match t {
+        Address::Decider => true,
+        Address::Machine(k) => k.0 < 4,
+    }
+}
+
+// An ACQUIRE or a RELEASE: no agent, never rejected.
+fn request_formed(c: ClientId, carries: bool, rejected: bool) -> bool
+    ensures { λ r. ⌜ r ≡ (clientInRange c && (not carries && not rejected)) ⌝ }
+{
+    (c.0 < 16) & (!carries & !rejected)
+}
+
+fn grant_formed(c: ClientId, carries: bool, rejected: bool, t: Address) -> bool
+    ensures { λ r. ⌜ r ≡ (clientInRange c && (not rejected || (carries && not (toDecider t)))) ⌝ }
+{
+    let at_decider = to_decider(t);
+    (c.0 < 16) & (!rejected | (carries & !at_decider))
+}
+
+fn free_formed(carries: bool, rejected: bool, t: Address) -> bool
+    ensures { λ r. ⌜ r ≡ messageFormed Free carries rejected t ⌝ }
+{
+    let at_decider = to_decider(t);
+    if rejected {
+        carries & !at_decider
+    } else {
+        carries & at_decider
+    }
+}
+
+pub fn message_formed(m: Message, carries: bool, rejected: bool, t: Address) -> bool
+    ensures { λ r. ⌜ r ≡ messageFormed m carries rejected t ⌝ }
+{
+    match m {
+        Message::Free => free_formed(carries, rejected, t),
+        Message::Acquire {
+            client: c,
+            mode: _,
+            granted: _,
+        } => request_formed(c, carries, rejected),
+        Message::Grant { client: c, mode: _ } => grant_formed(c, carries, rejected, t),
+        Message::Release { client: c } => request_formed(c, carries, rejected),
+    }
+}
+
+pub fn packet_formed(p: Packet) -> bool
+    ensures { λ r. ⌜ r ≡ packetFormed p ⌝ }
+{
+    let m = p.message;
+    let t = p.to;
+    let x = p.carried;
+    let message = message_formed(m, x.present, p.rejected, t);
+    let address = address_in_range(t);
+    let carried = slot_formed(x);
+    message & (address & carried)
+}
+
+// ---- a wire
+pub fn shaped_packets(a: [Packet; 33], n: usize) -> bool
+    ensures { λ r. ⌜ r ≡ shaped 33 isBlankPacket a n ⌝ }
+{
+    let mut ok = n <= 33;
+    let mut j = n;
+    while j < 33 {
+        let p = a[j];
+        let b = is_blank_packet(p);
+        ok = ok & b;
+        j += 1;
+    }
+    ok
+}
+
+pub fn packets_formed(a: [Packet; 33], n: usize) -> bool
+    requires { ⌜ n ≤ 33 ⌝ }
+    ensures { λ r. ⌜ r ≡ all packetFormed (take n a) ⌝ }
+{
+    let mut ok = true;
+    let mut j: usize = 0;
+    while j < n {
+        let p = a[j];
+        let b = packet_formed(p);
+        ok = ok & b;
+        j += 1;
+    }
+    ok
+}
+
+pub fn wire_formed(w: Wire) -> bool
+    ensures { λ r. ⌜ r ≡ wireFormed w ⌝ }
+{
+    let a = w.slots;
+    let n = w.len as usize;
+    if shaped_packets(a, n) {
+        packets_formed(a, n)
+    } else {
+        false
+    }
+}
+
+// ---- a lock and the cluster
+pub fn owner_in_range(o: Owner) -> bool
+    ensures { λ r. ⌜ r ≡ ownerInRange o ⌝ }
+{
+    match o {
+        Owner::Free => true,
+        Owner::Owned(_, k) => k.0 < 4,
+    }
+}
+
+pub fn slots_formed(a: [AgentSlot; 4]) -> bool
+    ensures { λ r. ⌜ r ≡ (eqb (length a) 4 && all slotFormed a) ⌝ }
+{
+    let mut ok = true;
+    let mut j: usize = 0;
+    while j < 4 {
+        let x = a[j];
+        let b = slot_formed(x);
+        ok = ok & b;
+        j += 1;
+    }
+    ok
+}
+
+fn has_all_clients(a: [ClientState; 16]) -> bool
+    ensures { λ r. ⌜ r ≡ eqb (length a) 16 ⌝ }
+{
+    true
+}
+
+pub fn lock_formed(s: LockState) -> bool
+    ensures { λ r. ⌜ r ≡ lockFormed s ⌝ }
+{
+    let d = s.decider;
+    let o = d.owner;
+    let a = s.agents;
+    let c = s.clients;
+    let owner = owner_in_range(o);
+    let agents = slots_formed(a);
+    let clients = has_all_clients(c);
+    let wire = wire_formed(s.wire);
+    owner & (agents & (clients & wire))
+}
+
+fn locks_formed(a: [LockState; 8]) -> bool
+    ensures { λ r. ⌜ r ≡ (eqb (length a) 8 && all lockFormed a) ⌝ }
+{
+    let mut ok = true;
+    let mut j: usize = 0;
+    while j < 8 {
+        let s = a[j];
+        let b = lock_formed(s);
+        ok = ok & b;
+        j += 1;
+    }
+    ok
+}
+
+pub fn well_formed(x: Cluster) -> bool
+    ensures { λ r. ⌜ r ≡ wellFormed x ⌝ }
+{
+    let a = x.locks;
+    locks_formed(a)
+}

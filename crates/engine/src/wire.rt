@@ -1,0 +1,104 @@
+// The wire: packets in the order they were sent, in the first slots of an array.
+use crate::blank::blank_packet;
+use model::ClientId;
+use model::Message;
+use model::Packet;
+use model::Wire;
+ghost use mathlib.Core.Path.{_≡_};
+ghost use mathlib.Core.List.{[], _∷_, _++_};
+ghost use Prim.Native.Nat.{_<_, _≤_};
+ghost use lib.ListN.{take, getD};
+ghost use Rattle.model.specs.Lists.{any, removed};
+ghost use Rattle.model.specs.States.{blankPacket, wireOf, packets};
+ghost use Rattle.model.specs.Calls.{messageNames, names};
+ghost use Rattle.laws.specs.Shapes.{CanonicalWire};
+ghost use Rattle.engine.specs.Arrays.{cutUsed};
+
+// Only the used part moves: the packet at i is out, the n - 1 others stand first, and the freed slot is blank.
+pub fn cut_packets(a: [Packet; 33], i: usize, n: usize) -> [Packet; 33]
+    requires { ⌜ (i < n) × (n ≤ 33) ⌝ }
+    ensures { λ r. ⌜ r ≡ cutUsed a i n blankPacket ⌝ }
+{
+    let mut b = a;
+    let mut j = i;
+    while j + 1 < n {
+        b[j] = b[j + 1];
+        j += 1;
+    }
+    b[j] = blank_packet();
+    b
+}
+
+// The wire without the packet at i.
+pub fn take_off(w: Wire, i: u8) -> Wire
+    requires { ⌜ (CanonicalWire w) × (i < w .len) ⌝ }
+    ensures { λ r. ⌜ r ≡ wireOf (removed (packets w) i) ⌝ }
+{
+    let a = w.slots;
+    let n = w.len;
+    let b = cut_packets(a, i as usize, n as usize);
+    Wire {
+        slots: b,
+        len: n - 1,
+    }
+}
+
+pub fn packet_at(w: Wire, i: u8) -> Packet
+    requires { ⌜ (CanonicalWire w) × (i < w .len) ⌝ }
+    ensures { λ r. ⌜ r ≡ getD (packets w) i blankPacket ⌝ }
+{
+    let j = i as usize;
+    w.slots[j]
+}
+
+pub fn send(mut w: Wire, p: Packet) -> Wire
+    requires { ⌜ (CanonicalWire w) × (w .len < 33) ⌝ }
+    ensures { λ r. ⌜ r ≡ wireOf (packets w ++ p ∷ []) ⌝ }
+{
+    let n = w.len;
+    let j = n as usize;
+    w.slots[j] = p;
+    w.len = n + 1;
+    w
+}
+
+// FREE names no client.
+pub fn message_names(m: Message, c: ClientId) -> bool
+    ensures { λ r. ⌜ r ≡ messageNames c m ⌝ }
+{
+    match m {
+        Message::Free => false,
+        Message::Acquire {
+            client,
+            mode: _,
+            granted: _,
+        } => client.0 == c.0,
+        Message::Grant { client, mode: _ } => client.0 == c.0,
+        Message::Release { client } => client.0 == c.0,
+    }
+}
+
+pub fn names_any(a: [Packet; 33], n: usize, c: ClientId) -> bool
+    requires { ⌜ n ≤ 33 ⌝ }
+    ensures { λ r. ⌜ r ≡ any (names c) (take n a) ⌝ }
+{
+    let mut j: usize = 0;
+    while j < n {
+        let p = a[j];
+        let m = p.message;
+        if message_names(m, c) {
+            return true;
+        }
+        j += 1;
+    }
+    false
+}
+
+// A packet on the wire names the client.
+pub fn is_named(w: Wire, c: ClientId) -> bool
+    requires { ⌜ CanonicalWire w ⌝ }
+    ensures { λ r. ⌜ r ≡ any (names c) (packets w) ⌝ }
+{
+    let a = w.slots;
+    names_any(a, w.len as usize, c)
+}

@@ -1,0 +1,90 @@
+-- A lock whose wire is empty and that nobody holds is fresh.
+use Rattle.laws.specs.Formed.{parts, agent-blank, wire-canonical}
+use Rattle.laws.specs.Shapes.{wire-whole}
+use Rattle.model.specs.WellFormed.{slotFormed}
+use Rattle.theorems.specs.Names.{Mode, Exclusive, Shared, Owner, Unowned, Owned, AgentSlot, Packet, Status, Idle, Waiting, Holding, ClientState, LockState, _≡_, refl, Bool, true, false, List, [], _∷_, ℕ, suc, _+_, arith, length, getD, replicate, eq-eqb, all, idle, noAgent, wireOf, packets, freshLock, lockFormed, and-left, and-right, bool-cases}
+use Rattle.theorems.specs.Tally.{flag, tally, tally-none}
+use Rattle.theorems.specs.Weights.{statusAt, weight, queuedS, waitingP, listedS, listedP, owedP, agentS, agentP, markP, rejectedP, heads, vacantS, waitF, holdF, ownedF}
+use Rattle.theorems.specs.Invariant.{Inv}
+use Rattle.theorems.specs.Facts.{absent, nobody, absent-of, free-inc}
+
+-- an agent that lists nobody is vacant
+unlisted : (hs : List Bool) → ((d : ℕ) → flag (getD hs d false) ≡ 0) → tally flag hs ≡ 0
+unfolding tally
+unlisted [] h = refl
+unlisted (b ∷ hs) h = omega (arith, h 0, unlisted hs (λ d. h (suc d)))
+
+unseated : (x : AgentSlot) → vacantS x ≡ 0 → ((d : ℕ) → listedS d x ≡ 0) → agentS x ≡ 0
+unfolding vacantS listedS agentS
+unseated x v h =
+    bool-cases (x .present)
+    (λ q. absurd (omega (arith, rw (q, eq-eqb (heads (x .agent)) 0 (unlisted (x .agent .holders) (λ d. rw q at (h d)))) at v)))
+    (λ q. rw q)
+
+none-seated : (xs : List AgentSlot) → tally vacantS xs ≡ 0 → ((d : ℕ) → tally (listedS d) xs ≡ 0) → tally agentS xs ≡ 0
+unfolding tally
+none-seated [] v h = refl
+none-seated (x ∷ xs) v h =
+    omega (arith, unseated x (omega arith) (λ d. omega (arith, h d)), none-seated xs (omega arith) (λ d. omega (arith, h d)))
+
+-- a slot without an agent is blank
+blank-slot : (x : AgentSlot) → slotFormed x ≡ true → x .present ≡ false → x ≡ noAgent
+unfolding slotFormed noAgent
+blank-slot x f q = rw (q, agent-blank (x .agent) (rw q at f))
+
+blank-slots : (xs : List AgentSlot) → all slotFormed xs ≡ true → tally agentS xs ≡ 0 → xs ≡ replicate (length xs) noAgent
+unfolding tally
+blank-slots [] f z = refl
+blank-slots (x ∷ xs) f z =
+    rw (blank-slot x (and-left (slotFormed x) _ f) (absent-of x (omega arith)), ← blank-slots xs (and-right (slotFormed x) _ f) (omega arith))
+
+idle-clients : (cs : List ClientState) → ((d : ℕ) → getD cs d idle .status ≡ Idle) → cs ≡ replicate (length cs) idle
+idle-clients [] h = refl
+idle-clients (c ∷ cs) h = let e : c .status ≡ Idle = h 0 in rw (e, ← idle-clients cs (λ d. h (suc d)))
+
+idle-is : (s : Status) → waitF Exclusive s + waitF Shared s + holdF s ≡ 0 → s ≡ Idle
+unfolding waitF holdF
+idle-is Idle e = refl
+idle-is (Waiting Exclusive) e = absurd (omega arith)
+idle-is (Waiting Shared) e = absurd (omega arith)
+idle-is (Holding n) e = absurd (omega arith)
+
+unowned-is : (o : Owner) → ownedF o ≡ 0 → o ≡ Unowned
+unfolding ownedF
+unowned-is Unowned e = refl
+unowned-is (Owned m k) e = absurd (omega arith)
+
+module _ (r : LockState) (i : Inv r) (f : lockFormed r ≡ true) (empty : packets (r .wire) ≡ []) (nobody : (d : ℕ) → holdF (statusAt r d) ≡ 0) where
+  -- with no packets a weight is that of the agents
+  only-seats : (g : Packet → ℕ) (h : AgentSlot → ℕ) → weight g h r ≡ tally h (r .agents)
+  unfolding weight tally
+  only-seats g h = rw empty (omega arith)
+
+  nothing : (g : Packet → ℕ) → tally g (packets (r .wire)) ≡ 0
+  unfolding tally
+  nothing g = rw empty
+
+  no-agents : tally agentS (r .agents) ≡ 0
+  no-agents =
+      none-seated (r .agents) (omega (arith, i .vacancy, only-seats rejectedP vacantS, nothing markP))
+      (λ d. omega (arith, i .holds d, only-seats (listedP d) (listedS d), nobody d, nothing (owedP d)))
+
+  owner : r .decider .owner ≡ Unowned
+  owner = unowned-is _ (omega (arith, i .agent, only-seats agentP agentS, no-agents))
+
+  waiting-none : (d : ℕ) (m : Mode) → waitF m (statusAt r d) ≡ 0
+  waiting-none d m =
+      omega (arith, i .waits d m, only-seats (waitingP d m) (queuedS d m), tally-none agentS (queuedS d m) (λ x z. absent x (absent-of x z) .queuedS d m) (r .agents) no-agents)
+
+  agents : r .agents ≡ replicate 4 noAgent
+  agents = rw (i .four) at (blank-slots (r .agents) (parts r f .agents) no-agents)
+
+  clients : r .clients ≡ replicate 16 idle
+  clients = rw (i .sixteen) at (idle-clients (r .clients) (λ d. idle-is (statusAt r d) (omega (arith, waiting-none d Exclusive, waiting-none d Shared, nobody d))))
+
+  wire : r .wire ≡ wireOf []
+  wire = rw empty at (wire-whole (r .wire) (wire-canonical (r .wire) (parts r f .wire)))
+
+  pub is-fresh : r ≡ freshLock
+  unfolding freshLock
+  is-fresh = rw (owner, free-inc r i owner, agents, clients, wire)

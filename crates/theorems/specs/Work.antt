@@ -1,0 +1,258 @@
+-- The work that is left on a lock: what each packet, agent and client counts for, how a step changes it, and that it is at most 114.
+use Rattle.theorems.specs.Names.{ClientId, Mode, Exclusive, Shared, Owner, Waiter, Agent, AgentSlot, Address, ToDecider, ToMachine, Message, Free, Acquire, Grant, Release, Packet, ClientState, LockState, _≡_, refl, _∙_, Bool, true, false, and-false, false≢true, List, [], _∷_, ℕ, zero, suc, _+_, _*_, _≤_, arith, length, getD, set, ltb, ltb-true, idle, waiters, noAgent, packets, Change, apply, bool-cases}
+use Rattle.theorems.specs.Tally.{flag, gate, tally, tally-at, tally-le, tally-le-at, tally-add, tally-zero, tally-length, sumTo, sum-swap, sum-le, sum-ext, sum-add, sum-one}
+use Rattle.theorems.specs.Weights.{statusAt, slotAt, weight, one, hit, hitW, askM, queuedS, waitingP, markM, listedS, listedP, owedM, owedP, releaseM, releaseP, agentS, agentP, heads, waitF, holdF, misfitS, fits, misfitP}
+use Rattle.theorems.specs.Invariant.{Inv}
+use Rattle.theorems.specs.Keep.{packets-after, Split}
+use Rattle.theorems.specs.Facts.{fit, named-of, away-of, home-of, far-idle, farW, far-none, hits, statuses, owned-one}
+use Rattle.theorems.specs.Exclusion.{carried-away}
+
+-- an agent under way: 2 to the decider, 1 to a machine
+abbrev pub tripA : Address → ℕ
+tripA ToDecider = 2
+tripA (ToMachine k) = 1
+
+-- the Bool: an agent is carried; a FREE carries one always
+unfoldable pub workM : Bool → Address → Message → ℕ
+workM x t (Acquire c n false) = 7
+workM x t (Acquire c n true) = 3
+workM true t (Grant c n) = 5 + tripA t
+workM false t (Grant c n) = 3
+workM x t (Release c) = 1
+workM x t Free = tripA t
+
+unfoldable pub workS : AgentSlot → ℕ
+workS x = gate (x .present) (5 * length (waiters (x .agent .queue)) + 2 * heads (x .agent))
+
+abbrev pub workP : Packet → ℕ
+workP p = workM (p .carried .present) (p .to) (p .message) + workS (p .carried)
+
+abbrev pub workC : ClientState → ℕ
+workC c = 2 * holdF (c .status)
+
+unfoldable pub work : LockState → ℕ
+work s = weight workP workS s + tally workC (s .clients)
+
+-- ---- how a step changes it
+pub tally-set-le : {A : Type 0} (f : A → ℕ) (d : A) → f d ≡ 0 → (xs : List A) (i : ℕ) (y : A) → tally f (set xs i y) + f (getD xs i d) ≤ tally f xs + f y
+unfolding tally
+tally-set-le f d z [] i y = omega (arith, z)
+tally-set-le f d z (x ∷ xs) zero y = omega arith
+tally-set-le f d z (x ∷ xs) (suc i) y = omega (arith, tally-set-le f d z xs i y)
+
+pub work-none : workS noAgent ≡ 0
+unfolding workS noAgent
+work-none = refl
+
+pub work-after : (ch : Change) (gone rest : List Packet) (r : LockState) → Split r gone rest
+    → work (apply ch rest r) + tally workP gone + workS (slotAt r (ch .machine .0)) + 2 * holdF (statusAt r (ch .client .0))
+    ≤ work r + tally workP (ch .sends) + workS (ch .slot) + 2 * holdF (ch .status)
+unfolding work weight holdF
+work-after ch gone rest r sp =
+    omega (
+      arith,
+      sp .parts workP,
+      packets-after workP ch rest r,
+      tally-set-le workS noAgent work-none (r .agents) (ch .machine .0) (ch .slot),
+      tally-set-le workC idle refl (r .clients) (ch .client .0) (record { status = ch .status }),
+    )
+
+-- ---- sums over the clients' numbers
+sum-front : (n : ℕ) (f : ℕ → ℕ) → sumTo (suc n) f ≡ f 0 + sumTo n (λ d. f (suc d))
+unfolding sumTo
+sum-front zero f = refl
+sum-front (suc n) f = omega (arith, sum-front n f)
+
+tally-sum : {A : Type 0} (f : A → ℕ) (z : A) (xs : List A) → tally f xs ≡ sumTo (length xs) (λ d. f (getD xs d z))
+unfolding tally sumTo
+tally-sum f z [] = refl
+tally-sum f z (x ∷ xs) = omega (arith, tally-sum f z xs, sum-front (length xs) (λ d. f (getD (x ∷ xs) d z)))
+
+-- what the clients below n count for, at most 7 each: a for the waiting, l for the listed, r for RELEASEs, h for holding, o for what is owed
+sum-bound : (n : ℕ) (a l r h o : ℕ → ℕ) → ((d : ℕ) → 7 * a d + 3 * l d + 5 * r d + h d ≤ 7 + 4 * o d)
+    → 7 * sumTo n a + 3 * sumTo n l + 5 * sumTo n r + sumTo n h ≤ n * 7 + 4 * sumTo n o
+unfolding sumTo
+sum-bound zero a l r h o e = omega arith
+sum-bound (suc n) a l r h o e = omega (arith, e n, sum-bound n a l r h o e)
+
+tally-bound : {A : Type 0} (m w o g a l r : A → ℕ) → ((x : A) → m x ≡ 0 → w x + 4 * o x ≤ 2 * g x + 7 * a x + 3 * l x + 5 * r x) → (xs : List A) → tally m xs ≡ 0
+    → tally w xs + 4 * tally o xs ≤ 2 * tally g xs + 7 * tally a xs + 3 * tally l xs + 5 * tally r xs
+unfolding tally
+tally-bound m w o g a l r e [] z = omega arith
+tally-bound m w o g a l r e (x ∷ xs) z = omega (arith, e x (omega arith), tally-bound m w o g a l r e xs (omega arith))
+
+-- ---- the clients' shares: what d has waiting in a packet, and in an agent's queue
+abbrev waitD : ℕ → Packet → ℕ
+waitD d p = waitingP d Exclusive p + waitingP d Shared p
+
+abbrev queueD : ℕ → AgentSlot → ℕ
+queueD d x = queuedS d Exclusive x + queuedS d Shared x
+
+-- the asks of all clients in a message
+askSum : Message → ℕ
+askSum m = sumTo 16 (λ d. askM d Exclusive m + askM d Shared m)
+
+one-each : (c : ClientId) → ltb (c .0) 16 ≡ true → sumTo 16 (λ d. one d c) ≡ 1
+unfolding one
+one-each c e = sum-one 16 (c .0) (ltb-true (c .0) 16 e)
+
+asks-each : (c : ClientId) (n : Mode) → ltb (c .0) 16 ≡ true → sumTo 16 (λ d. hit d Exclusive c n + hit d Shared c n) ≡ 1
+asks-each c n e = sum-ext 16 (λ d. hit d Exclusive c n + hit d Shared c n) (λ d. one d c) (λ d. hits d c n) ∙ one-each c e
+
+trip-two : (t : Address) → tripA t ≤ 2
+trip-two ToDecider = omega arith
+trip-two (ToMachine k) = omega arith
+
+none-each : (f : ℕ → ℕ) → ((d : ℕ) → f d ≡ 0) → sumTo 16 f ≡ 0
+none-each f h = omega (arith, sum-le 16 0 f (λ d. omega (arith, h d)))
+
+message-work : (o : Owner) (x : Bool) (t : Address) (b : Bool) (a : Agent) (m : Message) → fits o x t b a m ≡ true
+    → workM x t m + 4 * sumTo 16 (λ d. owedM d x m) ≤ 2 * flag x + 7 * askSum m + 3 * sumTo 16 (λ d. markM d m) + 5 * sumTo 16 (λ d. releaseM d m)
+unfolding workM owedM askM markM releaseM askSum fits
+message-work o x t b a (Acquire c n false) e = let q = named-of o x t b a (Acquire c n false) e in omega (arith, asks-each c n q, none-each (λ d. 0) (λ d. refl))
+message-work o x t b a (Acquire c n true) e = let q = named-of o x t b a (Acquire c n true) e in omega (arith, one-each c q, none-each (λ d. 0) (λ d. refl))
+message-work o true t b a (Grant c n) e = let q = named-of o true t b a (Grant c n) e in omega (arith, asks-each c n q, none-each (λ d. 0) (λ d. refl), trip-two t)
+message-work o false t b a (Grant c n) e = let q = named-of o false t b a (Grant c n) e in omega (arith, asks-each c n q, one-each c q)
+message-work o x t b a (Release c) e = let q = named-of o x t b a (Release c) e in omega (arith, one-each c q)
+message-work o true t b a Free e = omega (arith, none-each (λ d. 0) (λ d. refl), trip-two t)
+message-work o false t b a Free e = absurd (false≢true (rw and-false at e))
+
+-- the waiters of an agent that are no clients
+unfoldable farS : AgentSlot → ℕ
+farS x = gate (x .present) (tally farW (waiters (x .agent .queue)))
+
+queue-work : (ws : List Waiter) → tally farW ws ≡ 0 → length ws ≤ sumTo 16 (λ d. tally (hitW d Exclusive) ws + tally (hitW d Shared) ws)
+queue-work ws z =
+    omega (
+      arith,
+      tally-length ws,
+      tally-le (λ w. 1) (λ w. farW w + sumTo 16 (λ d. hitW d Exclusive w + hitW d Shared w)) each ws,
+      tally-add farW (λ w. sumTo 16 (λ d. hitW d Exclusive w + hitW d Shared w)) ws,
+      sum-swap 16 (λ d w. hitW d Exclusive w + hitW d Shared w) ws,
+      sum-ext 16 (λ d. tally (λ w. hitW d Exclusive w + hitW d Shared w) ws) (λ d. tally (hitW d Exclusive) ws + tally (hitW d Shared) ws) (λ d. tally-add (hitW d Exclusive) (hitW d Shared) ws),
+    )
+  where
+    each : (w : Waiter) → 1 ≤ farW w + sumTo 16 (λ d. hitW d Exclusive w + hitW d Shared w)
+    each w = bool-cases (ltb (w .client .0) 16) (λ q. omega (arith, asks-each (w .client) (w .mode) q)) (λ q. rw q (omega arith))
+
+slot-work : (x : AgentSlot) → (x .present ≡ true → length (x .agent .holders) ≡ 16) → farS x ≡ 0
+    → workS x ≤ 7 * sumTo 16 (λ d. queueD d x) + 3 * sumTo 16 (λ d. listedS d x)
+unfolding workS queuedS listedS farS
+slot-work x h z =
+    bool-cases (x .present)
+    (λ q.
+    let z′ : tally farW (waiters (x .agent .queue)) ≡ 0 = rw q at z in
+    rw (q, tally-sum flag false (x .agent .holders), h q) (omega (arith, queue-work (waiters (x .agent .queue)) z′)))
+    (λ q. rw q (omega arith))
+
+carried-sized : (o : Owner) (x : Bool) (t : Address) (b : Bool) (a : Agent) (m : Message) → fits o x t b a m ≡ true → x ≡ true → length (a .holders) ≡ 16
+carried-sized o false t b a m e q = absurd (false≢true q)
+carried-sized o true t b a m e q = away-of a (carried-away o t b a m e) .sized
+
+packet-work : (o : Owner) (p : Packet) → misfitP o p + farS (p .carried) ≡ 0
+    → workP p + 4 * sumTo 16 (λ d. owedP d p) ≤ 2 * agentP p + 7 * sumTo 16 (λ d. waitD d p) + 3 * sumTo 16 (λ d. listedP d p) + 5 * sumTo 16 (λ d. releaseP d p)
+unfolding misfitP agentS askSum
+packet-work o p z =
+    let f : fits o (p .carried .present) (p .to) (p .rejected) (p .carried .agent) (p .message) ≡ true = fit _ (omega arith) in
+    omega (
+      arith,
+      message-work o _ _ _ _ (p .message) f,
+      slot-work (p .carried) (carried-sized o _ _ _ _ (p .message) f) (omega arith),
+      sum-ext 16 (λ d. waitD d p) (λ d. (askM d Exclusive (p .message) + askM d Shared (p .message)) + queueD d (p .carried)) (λ d. omega arith),
+      sum-add 16 (λ d. askM d Exclusive (p .message) + askM d Shared (p .message)) (λ d. queueD d (p .carried)),
+      sum-add 16 (λ d. markM d (p .message)) (λ d. listedS d (p .carried)),
+    )
+
+-- no waiter is far, where none is counted
+far-slots : {A : Type 0} (s : A → AgentSlot) (xs : List A) → ((d : ℕ) (m : Mode) → 16 ≤ d → tally (λ x. queuedS d m (s x)) xs ≡ 0) → tally (λ x. farS (s x)) xs ≡ 0
+unfolding tally queuedS farS
+far-slots s [] h = refl
+far-slots s (x ∷ xs) h = omega (arith, far-slots s xs (λ d m g. omega (arith, h d m g)), here)
+  where
+    here : gate (s x .present) (tally farW (waiters (s x .agent .queue))) ≡ 0
+    here = bool-cases (s x .present) (λ q. rw q (far-none (waiters (s x .agent .queue)) (λ d m g. omega (arith, rw q at (h d m g))))) (λ q. rw q)
+
+module _ (r : LockState) (i : Inv r) where
+  abbrev ps : List Packet
+  ps = packets (r .wire)
+
+  far-queues : (d : ℕ) (m : Mode) → 16 ≤ d → weight (waitingP d m) (queuedS d m) r ≡ 0
+  unfolding waitF
+  far-queues d m h = i .waits d m ∙ rw (far-idle r d i h)
+
+  far-carried : tally (λ p. farS (p .carried)) ps ≡ 0
+  unfolding weight
+  far-carried = far-slots (λ p. p .carried) ps (λ d m h. omega (arith, far-queues d m h, tally-add (λ p. askM d m (p .message)) (λ p. queuedS d m (p .carried)) ps))
+
+  far-seated : tally farS (r .agents) ≡ 0
+  unfolding weight
+  far-seated = far-slots (λ x. x) (r .agents) (λ d m h. omega (arith, far-queues d m h))
+
+  home-sized : (k : ℕ) → slotAt r k .present ≡ true → length (slotAt r k .agent .holders) ≡ 16
+  unfolding misfitS
+  home-sized k q = home-of (r .decider .owner) k (slotAt r k .agent) (rw q at (i .homes k)) .sized
+
+  seats-work : tally workS (r .agents) ≤ 7 * tally (λ x. sumTo 16 (λ d. queueD d x)) (r .agents) + 3 * tally (λ x. sumTo 16 (λ d. listedS d x)) (r .agents)
+  seats-work =
+      let share : AgentSlot → ℕ = λ x. 7 * sumTo 16 (λ d. queueD d x) + 3 * sumTo 16 (λ d. listedS d x) in
+      let z : AgentSlot → ℕ = λ x. 0 in
+      omega (
+        arith,
+        tally-le-at workS share noAgent (r .agents) (λ k h. slot-work (slotAt r k) (home-sized k) (omega (arith, far-seated, tally-at farS noAgent (r .agents) k h))),
+        tally-bound z share z z (λ x. sumTo 16 (λ d. queueD d x)) (λ x. sumTo 16 (λ d. listedS d x)) z (λ x e. omega arith) (r .agents) (tally-zero (r .agents)),
+        tally-zero (r .agents),
+      )
+
+  wire-work : tally workP ps + 4 * tally (λ p. sumTo 16 (λ d. owedP d p)) ps
+      ≤ 2 * tally agentP ps + 7 * tally (λ p. sumTo 16 (λ d. waitD d p)) ps + 3 * tally (λ p. sumTo 16 (λ d. listedP d p)) ps + 5 * tally (λ p. sumTo 16 (λ d. releaseP d p)) ps
+  wire-work =
+      tally-bound (λ p. misfitP (r .decider .owner) p + farS (p .carried)) workP _ agentP _ _ _ (packet-work (r .decider .owner)) ps
+      (omega (arith, tally-add (misfitP (r .decider .owner)) (λ p. farS (p .carried)) ps, i .fitting, far-carried))
+
+  -- the waiting, listed and holding of client d
+  abbrev waitsOf : ℕ → ℕ
+  waitsOf d = tally (waitD d) ps + tally (queueD d) (r .agents)
+
+  abbrev listsOf : ℕ → ℕ
+  listsOf d = tally (listedP d) ps + tally (listedS d) (r .agents)
+
+  abbrev holdsOf : ℕ → ℕ
+  holdsOf d = workC (getD (r .clients) d idle)
+
+  each-client : (d : ℕ) → 7 * waitsOf d + 3 * listsOf d + 5 * tally (releaseP d) ps + holdsOf d ≤ 7 + 4 * tally (owedP d) ps
+  unfolding weight
+  each-client d =
+      omega (
+        arith,
+        i .waits d Exclusive,
+        i .waits d Shared,
+        i .holds d,
+        i .rels d,
+        statuses (statusAt r d),
+        tally-add (waitingP d Exclusive) (waitingP d Shared) ps,
+        tally-add (queuedS d Exclusive) (queuedS d Shared) (r .agents),
+      )
+
+  clients-work : tally workC (r .clients) ≡ sumTo 16 holdsOf
+  clients-work = rw (i .sixteen) at (tally-sum workC idle (r .clients))
+
+  pub work-bound : work r ≤ 114
+  unfolding work weight
+  work-bound =
+      omega (
+        arith,
+        wire-work,
+        seats-work,
+        clients-work,
+        sum-bound 16 waitsOf listsOf (λ d. tally (releaseP d) ps) holdsOf (λ d. tally (owedP d) ps) each-client,
+        sum-add 16 (λ d. tally (waitD d) ps) (λ d. tally (queueD d) (r .agents)),
+        sum-add 16 (λ d. tally (listedP d) ps) (λ d. tally (listedS d) (r .agents)),
+        sum-swap 16 owedP ps,
+        sum-swap 16 waitD ps,
+        sum-swap 16 listedP ps,
+        sum-swap 16 releaseP ps,
+        sum-swap 16 queueD (r .agents),
+        sum-swap 16 listedS (r .agents),
+        i .agent,
+        owned-one (r .decider .owner),
+      )
