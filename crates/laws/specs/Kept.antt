@@ -9,7 +9,7 @@ use lib.Dec.{leb}
 use borrow.Author.Tests.{eq-eqb, lt-ltb, leb-true, leb-false}
 use Rattle.model.specs.Lists.{pick, any, all, removed}
 use Rattle.laws.specs.Names.{MachineId, ClientId, Mode, Exclusive, Shared, Owner, Unowned, Owned, Waiter, Agent, AgentSlot, Address, ToDecider, ToMachine, Message, Free, Acquire, Grant, Release, Packet, Status, Idle, LockState, WireFull}
-use Rattle.model.specs.States.{queueOf, waiters, packets, seated, newAgent, agentOn, machineOf, isShared, packet}
+use Rattle.model.specs.States.{queueOf, waiters, packets, seated, newAgent, agentOn, machineOf, isShared}
 use Rattle.model.specs.WellFormed.{clientInRange, ownerInRange, addressInRange, isClient, waiterInRange, slotFormed, messageFormed, packetFormed, lockFormed}
 use Rattle.model.specs.Changes.{Change, Verdict, cannot-place, does, apply, accepted, refused, finish, machine0, client0, deciding, seating, telling, seatingTelling}
 use Rattle.model.specs.Asking.{changed, queuing, noRoom, withRoom, mayJoin, asks, acquires, anyHolder, without, handOver, slotLeft, sendsLeft, leaves, lists, releases}

@@ -1,27 +1,26 @@
 -- The drain's next call passes its tests: on a well-formed cluster it is its step.
-use mathlib.Core.Path.{_≡_, refl, sym, _∙_}
-use mathlib.Core.Bool.{Bool, true, false, not}
+use mathlib.Core.Path.{_≡_, refl}
+use mathlib.Core.Bool.{Bool, true, false}
 use mathlib.Core.List.{List, [], _∷_}
-use Prim.Native.Nat.{ℕ, zero, suc, _+_, _*_, _/_, _%_, _<_, _≤_}
+use Prim.Native.Nat.{ℕ, zero, suc, _+_, _*_, _/_, _%_, _<_}
 use native.Mathlib.Omega.{arith}
 use lib.ListN.{length, getD}
-use lib.Dec.{leb}
 use borrow.Author.Tests.{lt-leb}
 use Rattle.model.specs.Lists.{pick}
-use Rattle.laws.specs.Names.{LockId, MachineId, TaskId, ClientId, Mode, Packet, Status, Idle, Waiting, Holding, ClientState, LockState, Cluster, Call, ReleaseCall, DeliverCall, Malformed}
+use Rattle.laws.specs.Names.{LockId, MachineId, TaskId, Mode, Packet, Status, Idle, Waiting, Holding, ClientState, LockState, Cluster, Call, ReleaseCall, DeliverCall}
 use Rattle.model.specs.States.{clientOf, statusOf, idle, packets, lockIn}
 use Rattle.model.specs.WellFormed.{wellFormed}
 use Rattle.model.specs.Refusals.{first}
 use Rattle.model.specs.Calls.{isHolding, unless, release, deliver, perform}
-use Rattle.model.specs.Drain.{Next, none, some, releaseFirst, nextOf, nextCall}
-use Rattle.laws.specs.Formed.{Parts, parts, lock-formed}
-use Rattle.laws.specs.Opened.{lockOf, stepOf, outcomeOf, Allowed, may-release, may-deliver}
+use Rattle.model.specs.Drain.{none, some, releaseFirst, nextOf, nextCall}
+use Rattle.laws.specs.Formed.{parts, lock-formed}
+use Rattle.laws.specs.Opened.{lockOf, outcomeOf, Allowed, may-release, may-deliver}
 
 -- what the drain does next to a lock's state
 pub data NextIs (l : LockId) (s : LockState) : Call → Type 0 where
   delivers-first : 0 < length (packets (s .wire)) → NextIs l s (DeliverCall l 0)
-  releases-holder : (c : ℕ) (m : Mode) → c < length (s .clients) → length (packets (s .wire)) ≡ 0 → statusOf s (record { 0 = c }) ≡ Holding m
-      → NextIs l s (ReleaseCall l (record { 0 = c / 4 }) (record { 0 = c % 4 }))
+  releases-holder : (k : MachineId) (t : TaskId) (m : Mode) → clientOf k t .0 < length (s .clients) → t .0 < 4 → packets (s .wire) ≡ []
+      → statusOf s (clientOf k t) ≡ Holding m → NextIs l s (ReleaseCall l k t)
 
 holds : (st : Status) → isHolding st ≡ true → (m : Mode) × (st ≡ Holding m)
 holds Idle e = absurd (let z : _≡_ {A = ℕ} 0 1 = cc in omega arith)
@@ -62,7 +61,8 @@ next-is l s a e = go (packets (s .wire)) refl e
     go [] q r =
         let f = found l 0 (s .clients) a r in
         let z : 0 + f .at ≡ f .at = omega arith in
-        rw (f .call, z) (releases-holder (f .at) (f .mode) (f .inside) (rw q) (f .holding))
+        let w : 4 * (f .at / 4) + f .at % 4 ≡ f .at = omega arith in
+        rw (f .call, z) (releases-holder (record { 0 = f .at / 4 }) (record { 0 = f .at % 4 }) (f .mode) (rw w (f .inside)) (omega arith) q (rw w (f .holding)))
     go (p ∷ ps) q r = let z : a ≡ DeliverCall l 0 = cc in rw z (delivers-first (rw q (omega arith)))
 
 -- nobody holds and the wire is empty
@@ -99,14 +99,7 @@ pub goes : (l : LockId) (x : Cluster) (a : Call) → wellFormed x ≡ true → l
 unfolding perform release deliver unless first
 goes l x _ w h (delivers-first n) =
     record { lock = refl; allowed = may-deliver n; step = rw (w, lt-leb 8 (l .0) h, lt-leb (length (packets (lockIn x l .wire))) 0 n) }
-goes l x _ w h (releases-holder c m i z e) =
-    let sx : length (lockIn x l .clients) ≡ 16 = parts (lockIn x l) (lock-formed x l w h) .sixteen in
-    let q : 4 * (c / 4) + c % 4 ≡ c = omega arith in
-    let k : c / 4 < 4 = omega arith in
-    let t : c % 4 < 4 = omega arith in
-    let f : statusOf (lockIn x l) (clientOf (record { 0 = c / 4 }) (record { 0 = c % 4 })) ≡ Holding m = rw q e in
-    record {
-      lock = refl;
-      allowed = may-release k t m f;
-      step = rw (w, lt-leb 8 (l .0) h, lt-leb 4 (c / 4) k, lt-leb 4 (c % 4) t, f);
-    }
+goes l x _ w h (releases-holder k t m i b z e) =
+    let n : length (lockIn x l .clients) ≡ 16 = parts (lockIn x l) (lock-formed x l w h) .sixteen in
+    let j : k .0 < 4 = omega arith in
+    record { lock = refl; allowed = may-release j b m e; step = rw (w, lt-leb 8 (l .0) h, lt-leb 4 (k .0) j, lt-leb 4 (t .0) b, e) }

@@ -2,10 +2,10 @@
 use mathlib.Core.Bool.{Bool, true, false, _&&_, _||_}
 use mathlib.Core.List.{List, [], _∷_, _++_}
 use Prim.Native.Nat.{ℕ}
-use lib.ListN.{length, getD, set}
+use lib.ListN.{length, set}
 use lib.Dec.{leb}
 use Rattle.model.specs.Lists.{pick, any}
-use Rattle.model.specs.Names.{MachineId, ClientId, Mode, Exclusive, Shared, Waiter, Queue, Agent, AgentSlot, Address, ToDecider, Message, Free, Acquire, Grant, Release, Packet, Status, Idle, Waiting, Holding, LockState}
+use Rattle.model.specs.Names.{MachineId, ClientId, Mode, Waiter, Queue, Agent, AgentSlot, ToDecider, Message, Free, Acquire, Grant, Release, Packet, Status, Idle, Waiting, Holding, LockState}
 use Rattle.model.specs.States.{queueCapacity, queueOf, waiters, seated, noAgent, agentOn, listed, machineOf, packet, isShared}
 use Rattle.model.specs.WellFormed.{isClient}
 use Rattle.model.specs.Changes.{Change, Verdict, cannot-place, does, telling, seatingTelling}

@@ -1,10 +1,10 @@
 -- At the decider (Figure 8, 4.2).
 use mathlib.Core.Bool.{Bool, true, false, _&&_}
-use mathlib.Core.List.{List, [], _∷_}
+use mathlib.Core.List.{[], _∷_}
 use Prim.Native.Nat.{ℕ, _+_, _%_}
 use lib.Dec.{eqb}
 use Rattle.model.specs.Lists.{pick}
-use Rattle.model.specs.Names.{MachineId, ClientId, Mode, Shared, Owner, Unowned, Owned, Agent, Address, ToMachine, Message, Free, Acquire, Grant, Release, Packet, LockState}
+use Rattle.model.specs.Names.{MachineId, ClientId, Mode, Shared, Owner, Unowned, Owned, Agent, ToMachine, Message, Free, Acquire, Grant, Release, Packet, LockState}
 use Rattle.model.specs.States.{newAgent, seated, packet, machineOf, isShared, unowned}
 use Rattle.model.specs.Changes.{Change, Verdict, cannot-place, does, sending, deciding}
 use Rattle.model.specs.Asking.{changed}

@@ -1,10 +1,9 @@
 -- At a machine (Figure 7, 4.2).
 use mathlib.Core.Bool.{Bool, true, false}
 use mathlib.Core.List.{List, [], _∷_, map}
-use Prim.Native.Nat.{ℕ}
 use lib.ListN.{set}
 use Rattle.model.specs.Lists.{pick}
-use Rattle.model.specs.Names.{MachineId, ClientId, Mode, Exclusive, Shared, Waiter, Agent, AgentSlot, Address, ToDecider, Message, Free, Acquire, Grant, Release, Packet, Holding, LockState}
+use Rattle.model.specs.Names.{MachineId, ClientId, Mode, Exclusive, Shared, Waiter, Agent, AgentSlot, ToDecider, Message, Free, Acquire, Grant, Release, Packet, Holding, LockState}
 use Rattle.model.specs.States.{queueOf, waiters, seated, agentOn, statusOf, packet, isShared}
 use Rattle.model.specs.Changes.{Change, Verdict, cannot-place, does, client0, sending, seating, telling, seatingTelling}
 use Rattle.model.specs.Asking.{changed, joining, queuing, withRoom, mayJoin, leaves, lists}

@@ -1,7 +1,7 @@
 -- A step takes a packet off the wire or none, writes the decider, writes one machine's agent, writes one client's status, and
 -- appends packets: nothing else moves. A rule gives such a change, or says that the step cannot be placed.
-use mathlib.Core.List.{List, [], _∷_, _++_}
-use Prim.Native.Nat.{ℕ, _+_}
+use mathlib.Core.List.{List, _++_}
+use Prim.Native.Nat.{_+_}
 use lib.ListN.{length, set}
 use lib.Dec.{leb}
 use Rattle.model.specs.Lists.{pick}

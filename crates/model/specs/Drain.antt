@@ -1,11 +1,11 @@
 -- Draining a lock.
-use mathlib.Core.Bool.{Bool, true, false, not}
+use mathlib.Core.Bool.{not}
 use mathlib.Core.List.{List, [], _∷_}
 use Prim.Native.Nat.{ℕ, zero, suc, _/_, _%_}
 use lib.ListN.{length}
 use lib.Dec.{leb}
 use Rattle.model.specs.Lists.{pick}
-use Rattle.model.specs.Names.{LockId, MachineId, TaskId, Packet, Status, ClientState, LockState, Cluster, Call, ReleaseCall, DeliverCall, Refusal, Malformed, LockRange, NotQuiescent, Answer, Accepted, Refused, Drained}
+use Rattle.model.specs.Names.{LockId, Packet, ClientState, LockState, Cluster, Call, ReleaseCall, DeliverCall, Refusal, Malformed, LockRange, NotQuiescent, Answer, Accepted, Refused, Drained}
 use Rattle.model.specs.States.{locks, packets, lockIn}
 use Rattle.model.specs.WellFormed.{wellFormed}
 use Rattle.model.specs.Refusals.{_when_, first}
@@ -57,6 +57,10 @@ drainage (suc left) l x =
       | none ↦ ending Accepted x
       | some c ↦ elim (perform c x .answer) [ Accepted ↦ after-one c (drainage left l (perform c x .cluster)) | Refused r ↦ ending (Refused r) x ]
     ]
+
+-- the calls that a drain makes
+abbrev pub drainCalls : LockId → Cluster → List Call
+drainCalls l x = drainage allowance l x .calls
 
 -- It returns the bench and the number of steps taken, 0 for a lock at rest. A refusal ends it with that number, count 0 and the bench
 -- first given.

@@ -1,11 +1,11 @@
 -- What stands on the bench.
 use mathlib.Core.Bool.{Bool, true, false}
-use mathlib.Core.List.{List, [], _∷_}
+use mathlib.Core.List.{List, []}
 use Prim.Native.Nat.{ℕ, _+_, _*_, _/_}
 use lib.ListN.{length, take, getD, replicate}
 use lib.Dec.{eqb}
 use Rattle.model.specs.Lists.{pick, padded}
-use Rattle.model.specs.Names.{LockId, MachineId, TaskId, ClientId, Mode, Exclusive, Shared, Owner, Unowned, Owned, Decider, Waiter, Queue, Agent, AgentSlot, Address, ToDecider, ToMachine, Message, Free, Packet, Wire, Status, Idle, Waiting, Holding, ClientState, LockState, Cluster}
+use Rattle.model.specs.Names.{LockId, MachineId, TaskId, ClientId, Mode, Exclusive, Shared, Owner, Unowned, Owned, Decider, Waiter, Queue, Agent, AgentSlot, Address, ToDecider, Message, Free, Packet, Wire, Status, Idle, ClientState, LockState, Cluster}
 
 -- 8 locks (0 to 7), 4 machines (0 to 3), 4 tasks on each machine (0 to 3).
 abbrev pub locks : ℕ

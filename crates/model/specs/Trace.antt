@@ -7,7 +7,7 @@ use Rattle.model.specs.Lists.{pick}
 use Rattle.model.specs.Names.{LockId, ClientId, Mode, Address, ToDecider, ToMachine, Message, Free, Acquire, Grant, Release, Packet, Status, Idle, Waiting, Holding, Cluster, Call, AcquireCall, ReleaseCall, DeliverCall, Answer, Accepted, Refused}
 use Rattle.model.specs.States.{modeOf, clientOf, machineOf, agentOn, lockIn, fresh}
 use Rattle.model.specs.Asking.{lists}
-use Rattle.model.specs.Calls.{isIdle, packetAt, perform}
+use Rattle.model.specs.Calls.{packetAt, perform}
 
 -- What one client has seen of one lock: its phase, and how often it was granted the lock ('is shown a grant').
 pub record View : Type 0 where

@@ -1,11 +1,11 @@
 -- Transcripts and the desk program.
-use mathlib.Core.Bool.{Bool, true, false, _&&_, not}
+use mathlib.Core.Bool.{_&&_, not}
 use mathlib.Core.List.{List, [], _∷_}
 use Prim.Native.Nat.{ℕ, zero, suc, _+_, _-_, _*_}
 use lib.ListN.{length, getD}
 use lib.Dec.{eqb, leb, ltb}
 use Rattle.model.specs.Lists.{pick}
-use Rattle.model.specs.Names.{LockId, MachineId, TaskId, Cluster, Call, AcquireCall, ReleaseCall, DeliverCall, Refusal, Malformed, BadRecord, TranscriptLength, Answer, Accepted, Refused, Reading, Record, Bad, End, Replayed}
+use Rattle.model.specs.Names.{Cluster, Call, AcquireCall, ReleaseCall, DeliverCall, Malformed, BadRecord, TranscriptLength, Answer, Accepted, Refused, Reading, Record, Bad, End, Replayed}
 use Rattle.model.specs.WellFormed.{wellFormed}
 use Rattle.model.specs.Refusals.{_when_, first}
 use Rattle.model.specs.Calls.{perform}

@@ -6,7 +6,7 @@ use mathlib.Core.List.{List, [], _∷_}
 use Prim.Native.Nat.{ℕ}
 use lib.ListN.{set, replicate}
 use Rattle.model.specs.Lists.{any, all, padded}
-use Rattle.theorems.specs.Names.{MachineId, ClientId, Mode, Exclusive, Shared, Owner, Unowned, Owned, Waiter, Queue, Agent, AgentSlot, Address, ToDecider, ToMachine, Message, Free, Acquire, Grant, Release, Packet, Wire, LockState}
+use Rattle.theorems.specs.Names.{MachineId, ClientId, Exclusive, Shared, Unowned, Owned, Waiter, Queue, AgentSlot, Address, ToDecider, ToMachine, Message, Free, Acquire, Grant, Release, Packet, Wire, LockState}
 use Rattle.model.specs.States.{queueOf, newAgent, seated, noAgent, idle, blankWaiter, blankPacket, wireOf, noHolders}
 use Rattle.model.specs.WellFormed.{shaped, isBlankWaiter, distinct, queueFormed, agentFormed, isBlankAgent, slotFormed, messageFormed, packetFormed, isBlankPacket, wireFormed, lockFormed}
 

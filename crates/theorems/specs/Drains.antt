@@ -1,9 +1,10 @@
 -- Every step of a drain is accepted and lowers the rank, so a drain ends, with its lock fresh and the others as they were.
-use Rattle.model.specs.Drain.{Next, none, some, releaseFirst, nextOf, nextCall, Quiescent, Drainage, ending, after-one, drainage, drainEnded, drainUnless, drain}
+use Rattle.model.specs.Drain.{Next, none, some, nextCall, Quiescent, Drainage, ending, after-one, drainage, drainCalls, drainEnded, drainUnless, drain}
 use Rattle.model.specs.Refusals.{first}
-use Rattle.laws.specs.Opened.{lockOf, stepOf, outcomeOf, Allowed, may-release, may-deliver, perform-elsewhere, perform-here}
+use Rattle.laws.specs.Opened.{lockOf, stepOf, perform-elsewhere, perform-here}
+use Rattle.laws.specs.Next.{NextIs, delivers-first, releases-holder, next-is, rests, Goes, goes}
 use Rattle.laws.specs.Formed.{lock-formed}
-use Rattle.theorems.specs.Names.{LockId, MachineId, TaskId, ClientId, Mode, Exclusive, Shared, Agent, Address, ToDecider, ToMachine, Message, Free, Acquire, Grant, Release, Packet, Status, Idle, Waiting, Holding, ClientState, LockState, Cluster, Call, ReleaseCall, DeliverCall, Accepted, Outcome, _≡_, refl, ap, _∙_, Bool, true, false, _&&_, not, false≢true, List, [], _∷_, ℕ, zero, suc, _+_, _*_, _≤_, _<_, _/_, _%_, arith, length, getD, eqb, eqb-true, eq-eqb, lt-leb, pick, removed, clientOf, idle, statusOf, lockIn, packets, freshLock, wellFormed, isHolding, packetAt, after, settled, unless, release, deliver, perform, run, View, isAccepted, toMachine, isGrantFor, grants, shown, handedBack, sees, watch, and-left}
+use Rattle.theorems.specs.Names.{LockId, MachineId, TaskId, ClientId, Mode, Exclusive, Shared, Agent, Address, ToDecider, ToMachine, Message, Free, Acquire, Grant, Release, Packet, Status, Idle, Waiting, Holding, LockState, Cluster, Call, ReleaseCall, DeliverCall, Accepted, Outcome, _≡_, refl, sym, ap, _∙_, Bool, true, false, _&&_, not, false≢true, List, [], _∷_, ℕ, zero, suc, _+_, _≤_, _<_, arith, length, eqb, eqb-true, eq-eqb, lt-leb, pick, all, removed, clientOf, statusOf, lockIn, packets, freshLock, wellFormed, isHolding, packetAt, after, answersOf, deliverStep, settled, perform, run, View, isAccepted, toMachine, isGrantFor, grants, shown, handedBack, sees, watch, and-left}
 use Rattle.theorems.specs.Weights.{statusAt, waitF, holdF, few}
 use Rattle.theorems.specs.Invariant.{Inv}
 use Rattle.theorems.specs.Keep.{Split, split-at}
@@ -12,33 +13,10 @@ use Rattle.theorems.specs.Fresh.{all-idle}
 use Rattle.theorems.specs.Sent.{made}
 use Rattle.theorems.specs.Runs.{sound-step, Reached, reached-next, reached}
 use Rattle.theorems.specs.Traced.{agrees-call}
-use Rattle.theorems.specs.DrainStatement.{drainCalls, Drains}
+use Rattle.theorems.specs.Statements.{Drains, Demand3}
+use Rattle.theorems.specs.Theorems.{trace-agrees, exclusion-of-trace}
 use Rattle.theorems.specs.Falls.{rank, rank-bound, deliver-falls, release-falls}
 use Rattle.theorems.specs.Quiescence.{is-fresh}
-
--- ---- the holding client of lowest number, or none; n is the number of the first client in the list
-data Found (l : LockId) (n : ℕ) (cs : List ClientState) (a : Next) : Type 0 where
-  no-holder : a ≡ none → ((d : ℕ) → holdF (getD cs d idle .status) ≡ 0) → Found l n cs a
-  holder : (d : ℕ) (m : Mode) → a ≡ some (ReleaseCall l (record { 0 = (n + d) / 4 }) (record { 0 = (n + d) % 4 })) → d < length cs → getD cs d idle .status ≡ Holding m → Found l n cs a
-
-found : (l : LockId) (n : ℕ) (cs : List ClientState) → Found l n cs (releaseFirst l n cs)
-unfolding releaseFirst holdF
-found l n [] = no-holder refl (λ d. refl)
-found l n (c ∷ cs) = go (c .status) refl (found l (suc n) cs)
-  where
-    both-free : (s : Status) → holdF s ≡ 0 → c .status ≡ s → ((d : ℕ) → holdF (getD cs d idle .status) ≡ 0) → (d : ℕ) → holdF (getD (c ∷ cs) d idle .status) ≡ 0
-    both-free s z q h zero = rw q z
-    both-free s z q h (suc d) = h d
-
-    later : (s : Status) → holdF s ≡ 0 → c .status ≡ s → Found l (suc n) cs (releaseFirst l (suc n) cs) → Found l n (c ∷ cs) (releaseFirst l (suc n) cs)
-    later s z q (no-holder e h) = no-holder e (both-free s z q h)
-    later s z q (holder d m e b h) = let w : suc n + d ≡ n + suc d = omega arith in holder (suc d) m (rw w at e) (omega arith) h
-
-    go : (s : Status) → c .status ≡ s → Found l (suc n) cs (releaseFirst l (suc n) cs)
-        → Found l n (c ∷ cs) (pick (isHolding s) (some (ReleaseCall l (record { 0 = n / 4 }) (record { 0 = n % 4 }))) (releaseFirst l (suc n) cs))
-    go Idle q f = later Idle refl q f
-    go (Waiting m) q f = later (Waiting m) refl q f
-    go (Holding m) q f = let w : n + 0 ≡ n = omega arith in holder 0 m (rw w) (omega arith) q
 
 -- ---- the view of a client along a drain: its grants, and 1 more while it waits, stay as many
 waitingF : Status → ℕ
@@ -97,49 +75,41 @@ data Onward (x : Cluster) (l : LockId) : Type 0 where
   steps : (a : Call) → nextCall l (lockIn x l) ≡ some a → lockOf a ≡ l → perform a x .answer ≡ Accepted → Counted l a x
       → rank (lockIn (perform a x .cluster) l) < rank (lockIn x l) → Onward x l
 
+not-holding : (st : Status) → isHolding st ≡ false → holdF st ≡ 0
+unfolding holdF
+not-holding Idle e = refl
+not-holding (Waiting m) e = refl
+not-holding (Holding m) e = absurd (false≢true (sym e))
+
 module _ (x : Cluster) (l : LockId) (lb : l .0 < 8) (h : Reached x) where
   abbrev s : LockState
   s = lockIn x l
 
-  -- the call passes its tests, so it is its step
-  stepping : (a : Call) → nextCall l s ≡ some a → lockOf a ≡ l → Allowed a s → Counted l a x → perform a x ≡ outcomeOf a x → rank (stepOf a s .state) < rank s → Onward x l
-  unfolding settled
-  stepping a e q al n p f =
-      steps a e q (ap (λ (o : Outcome). o .answer) p ∙ rw (q, sound-step a s al (h .invs l) .taken)) n
-      (rw (← q) (rw (perform-here a x (h .formed) (rw q lb) p, q) f))
-
-  delivering : (p : Packet) (ps : List Packet) → packets (s .wire) ≡ p ∷ ps → Onward x l
-  unfolding nextOf perform deliver first unless
-  delivering p ps e =
-      let b : 0 < length (packets (s .wire)) = rw e (omega arith) in
-      let passed : perform (DeliverCall l 0) x ≡ outcomeOf (DeliverCall l 0) x = rw (h .formed, lt-leb 8 (l .0) lb, lt-leb (length (packets (s .wire))) 0 b) in
-      stepping (DeliverCall l 0) (rw e) refl (may-deliver b) (deliver-counted x l 0 (h .invs l) b) passed (deliver-falls s (h .invs l) p ps e)
-
-  releasing : packets (s .wire) ≡ [] → (d : ℕ) (m : Mode) → releaseFirst l 0 (s .clients) ≡ some (ReleaseCall l (record { 0 = (0 + d) / 4 }) (record { 0 = (0 + d) % 4 }))
-      → d < length (s .clients) → statusAt s d ≡ Holding m → Onward x l
-  unfolding nextOf perform release first unless
-  releasing e d m f b st =
-      let k : MachineId = record { 0 = d / 4 } in
-      let t : TaskId = record { 0 = d % 4 } in
-      let db : d < 16 = omega (arith, h .invs l .sixteen) in
-      let z : 0 + d ≡ d = omega arith in
-      let w : 4 * (d / 4) + d % 4 ≡ d = omega arith in
-      let kb : d / 4 < 4 = omega arith in
-      let tb : d % 4 < 4 = omega arith in
-      let ho : statusOf s (clientOf k t) ≡ Holding m = rw w st in
-      let passed : perform (ReleaseCall l k t) x ≡ outcomeOf (ReleaseCall l k t) x = rw (h .formed, lt-leb 8 (l .0) lb, lt-leb 4 (d / 4) kb, lt-leb 4 (d % 4) tb, ho) in
-      stepping (ReleaseCall l k t) (rw e (rw z at f)) refl (may-release kb tb m ho) (release-counted x l k t m ho) passed (release-falls s (h .invs l) (clientOf k t) m (rw w db) ho)
-
-  onward : Onward x l
-  onward = go (packets (s .wire)) refl
+  next-falls : (a : Call) → NextIs l s a → rank (stepOf a s .state) < rank s
+  next-falls _ (delivers-first b) = go (packets (s .wire)) refl b
     where
-      go : (ps : List Packet) → packets (s .wire) ≡ ps → Onward x l
-      go (p ∷ ps) e = delivering p ps e
-      go [] e = by-holder (found l 0 (s .clients))
-        where
-          by-holder : Found l 0 (s .clients) (releaseFirst l 0 (s .clients)) → Onward x l
-          by-holder (no-holder f n) = stops (unfold nextOf in rw e f) (is-fresh s (h .invs l) (lock-formed x l (h .formed) lb) e n)
-          by-holder (holder d m f b st) = releasing e d m f b st
+      go : (ps : List Packet) → packets (s .wire) ≡ ps → 0 < length ps → rank (deliverStep s 0 .state) < rank s
+      go [] e b = absurd (omega arith)
+      go (p ∷ ps) e b = deliver-falls s (h .invs l) p ps e
+  next-falls _ (releases-holder k t m i b e st) = release-falls s (h .invs l) (clientOf k t) m (omega (arith, h .invs l .sixteen)) st
+
+  next-counted : (a : Call) → NextIs l s a → Counted l a x
+  next-counted _ (delivers-first b) = deliver-counted x l 0 (h .invs l) b
+  next-counted _ (releases-holder k t m i b e st) = release-counted x l k t m st
+
+  -- the call passes its tests, so it is its step
+  onward : Onward x l
+  unfolding settled
+  onward = go (nextCall l s) refl
+    where
+      stepping : (a : Call) → nextCall l s ≡ some a → NextIs l s a → Goes l x a → Onward x l
+      stepping a e n g =
+          steps a e (g .lock) (ap (λ (o : Outcome). o .answer) (g .step) ∙ rw (g .lock, sound-step a s (g .allowed) (h .invs l) .taken)) (next-counted a n)
+          (rw (← g .lock) (rw (perform-here a x (h .formed) (rw (g .lock) lb) (g .step), g .lock) (next-falls a n)))
+
+      go : (n : Next) → nextCall l s ≡ n → Onward x l
+      go none e = let r = rests l s e in stops e (is-fresh s (h .invs l) (lock-formed x l (h .formed) lb) (r .wire) (λ d. not-holding _ (r .nobody d)))
+      go (some a) e = let n = next-is l s a e in stepping a e n (goes l x a (h .formed) lb n)
 
 -- ---- the whole drain
 record Ends (x : Cluster) (l : LockId) (n : ℕ) (d : Drainage) : Type 0 where
@@ -147,6 +117,7 @@ record Ends (x : Cluster) (l : LockId) (n : ℕ) (d : Drainage) : Type 0 where
   few : length (d .calls) ≤ n
   runs : d .cluster ≡ run (d .calls) x
   state : lockIn (d .cluster) l ≡ freshLock
+  accepted : all isAccepted (answersOf (d .calls) x) ≡ true
   quiescent : Quiescent l (lockIn (d .cluster) l)
   others : (j : LockId) → (j .0 ≡ l .0 → ⊥) → lockIn (d .cluster) j ≡ lockIn x j
   shown : (c : ClientId) (v : View) → v .phase ≡ statusOf (lockIn x l) c → watch l c (d .calls) x v .grants ≡ v .grants + waitingF (statusOf (lockIn x l) c)
@@ -170,7 +141,7 @@ ends-now : (m n : ℕ) (x : Cluster) (l : LockId) → nextCall l (lockIn x l) �
 unfolding watch run
 ends-now m n x l e f =
     rw (drainage-stops n l x e)
-    (record { answer = refl; few = omega arith; runs = refl; state = f; quiescent = e; others = λ j z. refl; shown = λ c v p. omega (arith, idle-waits x l c f) })
+    (record { answer = refl; few = omega arith; runs = refl; state = f; accepted = refl; quiescent = e; others = λ j z. refl; shown = λ c v p. omega (arith, idle-waits x l c f) })
 
 -- one step, and the drain of what it leaves
 module _ (x : Cluster) (l : LockId) (h : Reached x) (a : Call) (q : lockOf a ≡ l) (t : perform a x .answer ≡ Accepted) (cn : Counted l a x) where
@@ -194,13 +165,14 @@ module _ (x : Cluster) (l : LockId) (h : Reached x) (a : Call) (q : lockOf a ≡
         few = omega (arith, ih .few);
         runs = ih .runs;
         state = ih .state;
+        accepted = rw t (ih .accepted);
         quiescent = ih .quiescent;
         others = λ j z. ih .others j z ∙ perform-elsewhere a x j (λ w. z (w ∙ ap (λ (k : LockId). k .0) q));
         shown = shown-on m d ih;
       }
 
 ends-more : {x : Cluster} {l : LockId} {m n : ℕ} {d : Drainage} → m ≤ n → Ends x l m d → Ends x l n d
-ends-more b e = record { answer = e .answer; few = omega (arith, b, e .few); runs = e .runs; state = e .state; quiescent = e .quiescent; others = e .others; shown = e .shown }
+ends-more b e = record { answer = e .answer; few = omega (arith, b, e .few); runs = e .runs; state = e .state; accepted = e .accepted; quiescent = e .quiescent; others = e .others; shown = e .shown }
 
 -- by induction on the steps allowed: the rank bounds those that are taken
 ends : (n : ℕ) (x : Cluster) (l : LockId) → l .0 < 8 → Reached x → rank (lockIn x l) ≤ n → Ends x l (rank (lockIn x l)) (drainage n l x)
@@ -227,7 +199,7 @@ unfolding waitingF waitF
 waiting-one Exclusive = refl
 waiting-one Shared = refl
 
-pub drains-reached : (x : Cluster) (l : LockId) → l .0 < 8 → Reached x → Drains x l
+pub drains-reached : (x : Cluster) (l : LockId) → l .0 < 8 → Reached x → Drains x l (λ c. statusOf (lockIn x l) c)
 drains-reached x l lb h =
     let few : rank (lockIn x l) ≤ 11384 = rank-bound (lockIn x l) (h .invs l) in
     let e : Ends x l (rank (lockIn x l)) (drainage 16384 l x) = ends 16384 x l lb h (omega arith) in
@@ -236,6 +208,7 @@ drains-reached x l lb h =
       answered = rw d;
       counted = rw d;
       runs = rw d (e .runs);
+      accepted = e .accepted;
       allowed = rw d (omega (arith, few, e .few));
       bounded = rw d (omega (arith, few, e .few));
       quiescent = rw d (e .quiescent);
@@ -244,6 +217,27 @@ drains-reached x l lb h =
       granted = λ c m q. omega (arith, e .shown c (record { phase = statusOf (lockIn x l) c; grants = 0 }) refl, ap waitingF q, waiting-one m);
     }
 
--- after every list of calls
-pub drains : (cs : List Call) (l : LockId) → l .0 < 8 → Drains (after cs) l
-drains cs l lb = drains-reached (after cs) l lb (reached cs)
+-- the same phases, given otherwise
+same-phases : (x : Cluster) (l : LockId) (f g : ClientId → Status) → ((c : ClientId) → f c ≡ g c) → Drains x l f → Drains x l g
+same-phases x l f g e d =
+    record {
+      answered = d .answered;
+      counted = d .counted;
+      runs = d .runs;
+      accepted = d .accepted;
+      allowed = d .allowed;
+      bounded = d .bounded;
+      quiescent = d .quiescent;
+      fresh = d .fresh;
+      others = d .others;
+      granted = λ c m q. rw (← e c) (d .granted c m (e c ∙ q));
+    }
+
+-- ---- demand 3, for every list of calls
+pub demand3 : (cs : List Call) → Demand3 cs
+demand3 cs =
+    record {
+      trace = trace-agrees cs;
+      exclusion = exclusion-of-trace cs;
+      drains = λ l lb. same-phases (after cs) l _ _ (trace-agrees cs l) (drains-reached (after cs) l lb (reached cs));
+    }

@@ -29,7 +29,6 @@ pub mod Traced
 pub mod Statements
 pub mod Theorems
 -- ---- the drain: its bound, and how it ends
-pub mod DrainStatement
 pub mod Work
 pub mod Distance
 pub mod Falls

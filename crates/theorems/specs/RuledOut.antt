@@ -5,11 +5,11 @@ use mathlib.Core.Bool.{true≢false}
 use mathlib.Core.List.{List, [], _∷_}
 use Prim.Native.Nat.{ℕ}
 use native.Mathlib.Omega.{arith}
-use Rattle.theorems.specs.Names.{LockId, MachineId, Mode, Shared, Owned, AgentSlot, LockState, Cluster, Call, AcquireCall, DeliverCall, LockRange, Refusal, Answer, Accepted, Refused, Outcome}
+use Rattle.theorems.specs.Names.{LockId, MachineId, Mode, Shared, Owned, AgentSlot, Cluster, Call, AcquireCall, DeliverCall, LockRange, Refusal, Answer, Accepted, Refused, Outcome}
 use lib.ListN.{getD}
 use Rattle.model.specs.States.{noAgent, wireOf, lockIn, freshLock}
 use Rattle.model.specs.Calls.{perform, run, answersOf}
-use Rattle.theorems.specs.Scenarios.{Result, Scenario, resultOf, scenarios, scenarios-hold, machine, on, acquires0, delivers0, with0, d1, d3-rejected, d4}
+use Rattle.theorems.specs.Scenarios.{Result, scenarios, scenarios-hold, machine, on, acquires0, delivers0, with0, d1, d3-rejected, d4}
 
 abbrev pub Engine : Type 0
 Engine = Call → Cluster → Outcome

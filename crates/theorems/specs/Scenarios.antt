@@ -2,12 +2,12 @@
 -- calls on lock 0, and the answers and the whole state of lock 0 that follow. One list, one theorem, by computation.
 use mathlib.Core.Path.{_≡_, refl}
 use mathlib.Core.Bool.{Bool, true, false}
-use mathlib.Core.List.{List, [], _∷_, _++_, map}
+use mathlib.Core.List.{List, [], _∷_}
 use Prim.Native.Nat.{ℕ}
-use lib.ListN.{length, set, replicate}
+use lib.ListN.{set, replicate}
 use Rattle.model.specs.Lists.{padded, removed}
-use Rattle.theorems.specs.Names.{LockId, MachineId, TaskId, ClientId, Mode, Exclusive, Shared, Owner, Unowned, Owned, Decider, Waiter, Agent, AgentSlot, Address, ToDecider, ToMachine, Message, Free, Acquire, Grant, Release, Packet, Status, Idle, Waiting, Holding, ClientState, LockState, Cluster, Call, AcquireCall, ReleaseCall, DeliverCall, LockRange, StillNamed, Answer, Accepted, Refused}
-use Rattle.model.specs.States.{queueOf, waiters, noHolders, newAgent, seated, noAgent, idle, packet, blankPacket, wireOf, packets, freshLock, fresh}
+use Rattle.theorems.specs.Names.{LockId, MachineId, ClientId, Mode, Exclusive, Shared, Owned, Decider, Waiter, Agent, AgentSlot, Address, ToDecider, ToMachine, Message, Free, Acquire, Grant, Release, Packet, Status, Waiting, Holding, ClientState, LockState, Cluster, Call, AcquireCall, ReleaseCall, DeliverCall, LockRange, StillNamed, Answer, Accepted, Refused}
+use Rattle.model.specs.States.{queueOf, waiters, noHolders, newAgent, seated, noAgent, idle, packet, blankPacket, wireOf, packets, freshLock}
 use Rattle.model.specs.WellFormed.{shaped, isBlankWaiter, distinct, queueFormed, agentFormed, isBlankAgent, slotFormed, messageFormed, packetFormed, isBlankPacket, wireFormed, lockFormed, wellFormed}
 use Rattle.model.specs.Changes.{finish}
 use Rattle.model.specs.Asking.{asks, acquires, handOver, leaves, releases}

@@ -1,7 +1,9 @@
 -- What holds after every list of acquires, releases and deliveries, with any arguments, that starts from a fresh bench. Only the
 -- statements: Theorems has a proof of each for every list. Locks above 7 and clients above 15 read as fresh ones and as idle.
 use Rattle.laws.specs.Opened.{lockOf}
-use Rattle.theorems.specs.Names.{LockId, ClientId, Mode, Exclusive, Holding, Cluster, Call, Answer, _≡_, true, List, [], _∷_, ℕ, _≤_, _<_, length, eqb, leb, all, statusOf, lockIn, packets, fresh, wellFormed, current, packetAt, answersOf, after, perform, number, phaseAfter}
+use Rattle.model.specs.Drain.{allowance, Quiescent, drainCalls, drain}
+use Rattle.model.specs.Trace.{isAccepted, grantsIn}
+use Rattle.theorems.specs.Names.{LockId, ClientId, Mode, Exclusive, Status, Waiting, Holding, Cluster, Call, Answer, Accepted, _≡_, true, List, ℕ, _≤_, _<_, length, eqb, leb, all, statusOf, lockIn, packets, freshLock, fresh, wellFormed, current, packetAt, run, answersOf, after, perform, number, phaseAfter}
 use Rattle.theorems.specs.Tally.{tally}
 use Rattle.theorems.specs.Weights.{markP}
 
@@ -35,6 +37,30 @@ TraceAgrees cs = (l : LockId) (c : ClientId) → statusOf (lockIn (after cs) l) 
 abbrev pub ExclusionOfTrace : List Call → Type 0
 ExclusionOfTrace cs =
     (l : LockId) (c d : ClientId) (m : Mode) → (c .0 ≡ d .0 → ⊥) → phaseAfter l c cs ≡ Holding Exclusive → phaseAfter l d cs ≡ Holding m → ⊥
+
+-- A drain of the lock l on the cluster x, in which each client's phase is given.
+pub record Drains (x : Cluster) (l : LockId) (phase : ClientId → Status) : Type 0 where
+  -- It answers 0; its steps are these same calls, none refused, and it returns the bench and the number of steps taken.
+  pub answered : drain x l .answer ≡ Accepted
+  pub counted : drain x l .count ≡ length (drainCalls l x)
+  pub runs : drain x l .cluster ≡ run (drainCalls l x) x
+  pub accepted : all isAccepted (answersOf (drainCalls l x) x) ≡ true
+  -- It ends within 16,384 steps, and in truth within 114 · 99 + 98.
+  pub allowed : drain x l .count ≤ allowance
+  pub bounded : drain x l .count ≤ 11384
+  -- At its end the lock is at rest, its record is that of a fresh bench, and the records of the other locks are as they were.
+  pub quiescent : Quiescent l (lockIn (drain x l .cluster) l)
+  pub fresh : lockIn (drain x l .cluster) l ≡ freshLock
+  pub others : (j : LockId) → (j .0 ≡ l .0 → ⊥) → lockIn (drain x l .cluster) j ≡ lockIn x j
+  -- Each client that waited is shown exactly one grant in it, counted over its own calls.
+  pub granted : (c : ClientId) (m : Mode) → phase c ≡ Waiting m → grantsIn l c (drainCalls l x) x (phase c) ≡ 1
+
+-- Demand 3, one claim about a whole list: trace and statuses agree, nobody holds a lock exclusively beside another holder, and then every
+-- lock drains.
+pub record Demand3 (cs : List Call) : Type 0 where
+  pub trace : TraceAgrees cs
+  pub exclusion : ExclusionOfTrace cs
+  pub drains : (l : LockId) → l .0 < 8 → Drains (after cs) l (λ c. phaseAfter l c cs)
 
 -- The incarnation has eight bits; equality stays sound because at most 16 marked copies are outstanding: wherever an agent is in a
 -- packet, the incarnations are equal exactly when no marked ACQUIRE is on the wire.
