@@ -1,6 +1,6 @@
 -- The names that the proofs cite.
 pub use mathlib.Core.Path.{_≡_, sym, ap, _∙_}
-pub use mathlib.Core.Bool.{Bool, true, false, _&&_, not, and-assoc}
+pub use mathlib.Core.Bool.{Bool, true, false, false≢true, _&&_, not, and-assoc}
 pub use mathlib.Core.List.{List, [], _∷_, map}
 pub use mathlib.Core.Logic.{⊎-elim}
 pub use Prim.Native.Nat.{_+_, _-_, _<_, _≤_}
@@ -20,8 +20,10 @@ pub use Rattle.model.specs.Asking.{lists}
 pub use Rattle.model.specs.AtMachine.{grantOf}
 unfoldable pub use Rattle.model.specs.AtMachine.{ofMode, admitted, staying, joined, installs, granted, marked, unmarked, acquired, released, returned, arrives, atMachine}
 pub use Rattle.model.specs.Calls.{names}
+unfoldable pub use Rattle.model.specs.Calls.{delivers, deliverStep}
 pub use Rattle.laws.specs.Lists.{getD-any}
-pub use Rattle.laws.specs.Shapes.{packets-of, queue-whole, packet-is, waiter-is}
+pub use Rattle.laws.specs.Formed.{rest-canonical}
+pub use Rattle.laws.specs.Shapes.{packets-of, length-packets, queue-whole, packet-is, waiter-is}
 pub use Rattle.engine.specs.Arrays.{cutUsed, cutUsed-step, cutUsed-last, slid, slid-down, slid-last}
 pub use Rattle.engine.specs.Writes.{sent-at, queued-at, taken-off, popped, fronted, room-after}
 pub use Rattle.engine.specs.Scans.{any-hit, any-miss, any-none, opened, closed, used-hit, used-miss, used-none, join-next, join-end, first-next, first-end}
@@ -33,3 +35,12 @@ pub use lib.Dec.{eqb}
 unfoldable pub use Rattle.model.specs.WellFormed.{shaped, isBlankWaiter, queueFormed, agentFormed, isBlankAgent, slotFormed, messageFormed, packetFormed, isBlankPacket, wireFormed, lockFormed, wellFormed}
 pub use Rattle.engine.specs.FormedLaws.{shaped-short, pass-whole, pass-far, pass-twice, pass-next, pass-end}
 unfoldable pub use Rattle.engine.specs.FormedLaws.{allNew}
+pub use Rattle.engine.specs.Sweep.{holderFrom, holder-here, holder-next, holder-end}
+pub use Rattle.engine.specs.Names.{Answer, Stepped}
+pub use Rattle.laws.specs.Formed.{ready}
+pub use Rattle.laws.specs.Kept.{release-formed, deliver-formed}
+pub use Rattle.engine.specs.Sweep.{Course, course-start, delivers-next, releases-next, leg-on, leg-rests, leg-spent, leg-refused, course-on}
+pub use Rattle.engine.specs.Names.{LockState}
+pub use Rattle.model.specs.States.{lockIn}
+pub use Rattle.laws.specs.Formed.{eight, lock-formed}
+pub use Rattle.engine.specs.Sweep.{sweep, drain-ends, drain-stops, drain-malformed, drain-range}

@@ -7,3 +7,7 @@ pub mod Posts
 pub mod Leaving
 pub mod Admits
 pub mod FormedLaws
+pub mod Deciding
+pub mod Asking
+pub mod Within
+pub mod Sweep

@@ -1,0 +1,14 @@
+use Rattle.engine.proofs.Rules.{sym, needs, packets, decidesGrant, finish-sending}
+use Rattle.engine.proofs.decider.decides_grant.Statement.{statement}
+use Rattle.engine.proofs.decider.decides_grant.Tie as tie
+
+returns : tie.Need-returns
+returns c = rw (c .decides-agent .ensures, c .before .if1 .taken)
+
+returns-2 : tie.Need-returns-2
+unfolding decidesGrant
+returns-2 c = let s = c .before .before .before .before .args in
+    rw (c .post-one .ensures, c .before .sent-on .ensures, c .before .before .machine-of .ensures, c .before .before .before .if1 .left) (sym (finish-sending (s .s) (packets (s .rest)) _))
+
+pub decides-grant-spec : {M : Type 1} → statement M
+decides-grant-spec = tie.close (tie.spec (λ c κs. search needs) (λ c κs. search needs) (λ c κs. search needs) (λ c κs. search needs) returns returns-2)

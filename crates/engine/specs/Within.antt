@@ -1,0 +1,114 @@
+-- The calls on one lock of a cluster that is known to be well formed, when the lock's number is in range: what is left of each call
+-- is a step on that lock's state.
+use mathlib.Core.Path.{_≡_, refl, sym, ap, _∙_}
+use mathlib.Core.Bool.{Bool, true, false, _||_, not}
+use mathlib.Core.List.{List, [], _∷_}
+use Prim.Native.Nat.{ℕ, _<_, _≤_}
+use lib.ListN.{length, getD}
+use lib.Dec.{eqb, leb}
+use borrow.Author.Tests.{le-leb, lt-leb, leb-false, eqb-true}
+use native.Mathlib.Omega.{arith}
+use Rattle.engine.specs.Names.{LockId, MachineId, TaskId, ClientId, Refusal, Malformed, LockRange, MachineRange, TaskRange, ModeRange, NotIdle, StillNamed, NotHolding, IndexRange, Answer, Accepted, Refused, LockState, Cluster, Stepped, Outcome}
+use Rattle.model.specs.Lists.{any, all}
+use Rattle.model.specs.States.{machines, tasks, clientOf, modeOf, statusOf, packets, freshLock, lockIn}
+use Rattle.model.specs.WellFormed.{lockFormed, wellFormed}
+use Rattle.model.specs.Changes.{refused}
+use Rattle.model.specs.Refusals.{Cause, _when_, first}
+use Rattle.model.specs.Calls.{isIdle, isHolding, names, acquireStep, releaseStep, deliverStep, refusing, settled, unless, acquire, release, deliver}
+use Rattle.laws.specs.Tests.{and-left, and-right}
+use Rattle.laws.specs.Lists.{all-at}
+
+-- ---- the tests that are left, in document 01's order, and then the step
+abbrev pub idleTests : LockState → ClientId → List Cause
+idleTests s c = (NotIdle when not (isIdle (statusOf s c))) ∷ (StillNamed when any (names c) (packets (s .wire))) ∷ []
+
+abbrev pub acquireTests : LockState → MachineId → TaskId → ℕ → List Cause
+acquireTests s k t m =
+    (MachineRange when leb machines (k .0))
+    ∷ (TaskRange when leb tasks (t .0))
+    ∷ (ModeRange when not (eqb m 2 || eqb m 3))
+    ∷ idleTests s (clientOf k t)
+
+abbrev pub holdingTests : LockState → ClientId → List Cause
+holdingTests s c = (NotHolding when not (isHolding (statusOf s c))) ∷ []
+
+abbrev pub releaseTests : LockState → MachineId → TaskId → List Cause
+releaseTests s k t = (MachineRange when leb machines (k .0)) ∷ (TaskRange when leb tasks (t .0)) ∷ holdingTests s (clientOf k t)
+
+abbrev pub deliverTests : LockState → ℕ → List Cause
+deliverTests s i = (IndexRange when leb (length (packets (s .wire))) i) ∷ []
+
+-- the step r where the tests' answer accepts, else a refusal that leaves s
+unfoldable pub stepUnless : Answer → LockState → Stepped → Stepped
+stepUnless Accepted s r = r
+stepUnless (Refused n) s r = refused n s
+
+unfoldable pub acquireWithin : LockState → MachineId → TaskId → ℕ → Stepped
+acquireWithin s k t m = stepUnless (first (acquireTests s k t m)) s (acquireStep s (clientOf k t) (modeOf m))
+
+unfoldable pub releaseWithin : LockState → MachineId → TaskId → Stepped
+releaseWithin s k t = stepUnless (first (releaseTests s k t)) s (releaseStep s (clientOf k t))
+
+unfoldable pub deliverWithin : LockState → ℕ → Stepped
+deliverWithin s i = stepUnless (first (deliverTests s i)) s (deliverStep s i)
+
+-- ---- a cause that holds, and one that does not
+pub first-yes : (n : Refusal) {b : Bool} (cs : List Cause) → b ≡ true → first ((n when b) ∷ cs) ≡ Refused n
+unfolding first
+first-yes n cs e = rw e
+
+pub first-no : (n : Refusal) {b : Bool} (cs : List Cause) → b ≡ false → first ((n when b) ∷ cs) ≡ first cs
+unfolding first
+first-no n cs e = rw e
+
+pub all-no : (n : Refusal) (b : Bool) (cs : List Cause) → first ((n when b) ∷ cs) ≡ Accepted → (b ≡ false) × (first cs ≡ Accepted)
+unfolding first
+all-no n true cs e = let z : _≡_ {A = ℕ} 0 1 = cc in absurd (omega arith)
+all-no n false cs e = (refl, e)
+
+-- where nothing refuses, machine and task are in range
+pub in-range : (k : MachineId) (t : TaskId) (cs : List Cause)
+    → first ((MachineRange when leb machines (k .0)) ∷ (TaskRange when leb tasks (t .0)) ∷ cs) ≡ Accepted → (k .0 < 4) × (t .0 < 4)
+in-range k t cs e =
+    let p = all-no MachineRange (leb machines (k .0)) ((TaskRange when leb tasks (t .0)) ∷ cs) e in
+    let q = all-no TaskRange (leb tasks (t .0)) cs (p .1) in
+    (leb-false 4 (k .0) (p .0), leb-false 4 (t .0) (q .0))
+
+-- ---- a call is its tests on the cluster, and then the step on one lock
+unless-within : (a : Answer) (x : Cluster) (l : LockId) (s : LockState) (r : Stepped)
+    → unless a x l r ≡ settled (stepUnless a s r .answer) x l (stepUnless a s r .state)
+unfolding unless settled stepUnless
+unless-within Accepted x l s r = refl
+unless-within (Refused n) x l s r = refl
+
+module _ (x : Cluster) (l : LockId) where
+  abbrev causes : List Cause → List Cause
+  causes cs = (Malformed when not (wellFormed x)) ∷ (LockRange when leb 8 (l .0)) ∷ cs
+
+  pub malformed : (cs : List Cause) (r : Stepped) → wellFormed x ≡ false → unless (first (causes cs)) x l r ≡ refusing Malformed x
+  unfolding unless first
+  malformed cs r e = rw e
+
+  pub out-of-range : (cs : List Cause) (r : Stepped) → wellFormed x ≡ true → 8 ≤ l .0 → unless (first (causes cs)) x l r ≡ refusing LockRange x
+  unfolding unless first
+  out-of-range cs r e h = rw (e, le-leb 8 (l .0) h)
+
+  entered : (cs : List Cause) (s : LockState) (r : Stepped) → wellFormed x ≡ true → l .0 < 8
+      → unless (first (causes cs)) x l r ≡ settled (stepUnless (first cs) s r .answer) x l (stepUnless (first cs) s r .state)
+  unfolding first
+  entered cs s r e h = rw (e, lt-leb 8 (l .0) h) (unless-within (first cs) x l s r)
+
+  pub acquire-within : (k : MachineId) (t : TaskId) (m : ℕ) → wellFormed x ≡ true → l .0 < 8
+      → acquire x l k t m ≡ settled (acquireWithin (lockIn x l) k t m .answer) x l (acquireWithin (lockIn x l) k t m .state)
+  unfolding acquire acquireWithin
+  acquire-within k t m e h = entered _ (lockIn x l) _ e h
+
+  pub release-within : (k : MachineId) (t : TaskId) → wellFormed x ≡ true → l .0 < 8
+      → release x l k t ≡ settled (releaseWithin (lockIn x l) k t .answer) x l (releaseWithin (lockIn x l) k t .state)
+  unfolding release releaseWithin
+  release-within k t e h = entered _ (lockIn x l) _ e h
+
+  pub deliver-within : (i : ℕ) → wellFormed x ≡ true → l .0 < 8
+      → deliver x l i ≡ settled (deliverWithin (lockIn x l) i .answer) x l (deliverWithin (lockIn x l) i .state)
+  unfolding deliver deliverWithin
+  deliver-within i e h = entered _ (lockIn x l) _ e h

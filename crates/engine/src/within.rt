@@ -1,0 +1,187 @@
+// The calls on one lock's state that is known to be well formed: the tests that are left to a call, then its step.
+use crate::asking::acquire_step;
+use crate::decider::at_decider;
+use crate::leaving::release_step;
+use crate::machine::at_machine;
+use crate::state::refuse;
+use crate::state::status_at;
+use crate::wire::is_named;
+use crate::wire::packet_at;
+use crate::wire::take_off;
+use model::Address;
+use model::Answer;
+use model::ClientId;
+use model::LockState;
+use model::MachineId;
+use model::Mode;
+use model::Packet;
+use model::Refusal;
+use model::Status;
+use model::Stepped;
+use model::TaskId;
+use model::Wire;
+ghost use mathlib.Core.Path.{_≡_};
+ghost use mathlib.Core.Bool.{true, _||_};
+ghost use Prim.Native.Nat.{_<_};
+ghost use lib.Dec.{eqb};
+ghost use Rattle.model.specs.States.{clientOf, modeOf, agentOn, packets};
+ghost use Rattle.model.specs.WellFormed.{lockFormed};
+ghost use Rattle.model.specs.Changes.{finish};
+ghost use Rattle.model.specs.Refusals.{first};
+ghost use Rattle.model.specs.Calls.{isIdle, isHolding, delivers, deliverStep};
+ghost use Rattle.laws.specs.Shapes.{CanonicalWire, CanonicalQueue};
+ghost use Rattle.laws.specs.Formed.{Ready};
+ghost use Rattle.engine.specs.Within.{idleTests, acquireTests, holdingTests, releaseTests, acquireWithin, releaseWithin, deliverWithin};
+
+pub fn client_of(k: MachineId, t: TaskId) -> ClientId
+    requires { ⌜ (k .0 < 4) × (t .0 < 4) ⌝ }
+    ensures { λ r. ⌜ r ≡ clientOf k t ⌝ }
+{
+    ClientId(4 * k.0 + t.0)
+}
+
+pub fn is_mode(m: u8) -> bool
+    ensures { λ r. ⌜ r ≡ eqb m 2 || eqb m 3 ⌝ }
+{
+    if m == 2 { true } else { m == 3 }
+}
+
+pub fn mode_of(m: u8) -> Mode
+    ensures { λ r. ⌜ r ≡ modeOf m ⌝ }
+{
+    if m == 2 {
+        Mode::Exclusive
+    } else {
+        Mode::Shared
+    }
+}
+
+pub fn is_idle(st: Status) -> bool
+    ensures { λ r. ⌜ r ≡ isIdle st ⌝ }
+{
+    match st {
+        Status::Idle => true,
+        Status::Waiting(_) => false,
+        Status::Holding(_) => false,
+    }
+}
+
+pub fn is_holding(st: Status) -> bool
+    ensures { λ r. ⌜ r ≡ isHolding st ⌝ }
+{
+    match st {
+        Status::Idle => false,
+        Status::Waiting(_) => false,
+        Status::Holding(_) => true,
+    }
+}
+
+// The client is idle, and no packet names it.
+pub fn idle_test(s: LockState, c: ClientId) -> Answer
+    requires { ⌜ CanonicalWire (s .wire) ⌝ }
+    ensures { λ r. ⌜ r ≡ first (idleTests s c) ⌝ }
+{
+    let clients = s.clients;
+    if is_idle(status_at(clients, c)) {
+        if is_named(s.wire, c) {
+            Answer::Refused(Refusal::StillNamed)
+        } else {
+            Answer::Accepted
+        }
+    } else {
+        Answer::Refused(Refusal::NotIdle)
+    }
+}
+
+pub fn acquire_test(s: LockState, k: MachineId, t: TaskId, m: u8) -> Answer
+    requires { ⌜ CanonicalWire (s .wire) ⌝ }
+    ensures { λ r. ⌜ r ≡ first (acquireTests s k t m) ⌝ }
+{
+    if 4 <= k.0 {
+        Answer::Refused(Refusal::MachineRange)
+    } else if 4 <= t.0 {
+        Answer::Refused(Refusal::TaskRange)
+    } else if is_mode(m) {
+        idle_test(s, client_of(k, t))
+    } else {
+        Answer::Refused(Refusal::ModeRange)
+    }
+}
+
+pub fn holding_test(s: LockState, c: ClientId) -> Answer
+    ensures { λ r. ⌜ r ≡ first (holdingTests s c) ⌝ }
+{
+    let clients = s.clients;
+    if is_holding(status_at(clients, c)) {
+        Answer::Accepted
+    } else {
+        Answer::Refused(Refusal::NotHolding)
+    }
+}
+
+pub fn release_test(s: LockState, k: MachineId, t: TaskId) -> Answer
+    ensures { λ r. ⌜ r ≡ first (releaseTests s k t) ⌝ }
+{
+    if 4 <= k.0 {
+        Answer::Refused(Refusal::MachineRange)
+    } else if 4 <= t.0 {
+        Answer::Refused(Refusal::TaskRange)
+    } else {
+        holding_test(s, client_of(k, t))
+    }
+}
+
+pub fn acquire_within(s: LockState, k: MachineId, t: TaskId, m: u8) -> Stepped
+    requires { ⌜ lockFormed s ≡ true ⌝ }
+    ensures { λ r. ⌜ r ≡ acquireWithin s k t m ⌝ }
+{
+    let a = acquire_test(s, k, t, m);
+    match a {
+        Answer::Accepted => acquire_step(s, client_of(k, t), mode_of(m)),
+        Answer::Refused(n) => refuse(n, s),
+    }
+}
+
+pub fn release_within(s: LockState, k: MachineId, t: TaskId) -> Stepped
+    requires { ⌜ lockFormed s ≡ true ⌝ }
+    ensures { λ r. ⌜ r ≡ releaseWithin s k t ⌝ }
+{
+    let a = release_test(s, k, t);
+    match a {
+        Answer::Accepted => release_step(s, client_of(k, t)),
+        Answer::Refused(n) => refuse(n, s),
+    }
+}
+
+// The packet p, off the wire, is delivered at its address.
+pub fn deliver_packet(to: Address, s: LockState, rest: Wire, p: Packet) -> Stepped
+    requires { ⌜ (CanonicalWire rest) × (((k : MachineId) → CanonicalQueue (agentOn s k .agent .queue)) × (CanonicalQueue (p .carried .agent .queue))) ⌝ }
+    ensures { λ r. ⌜ r ≡ finish (delivers to s p) (packets rest) s ⌝ }
+{
+    match to {
+        Address::Decider => at_decider(s, rest, p),
+        Address::Machine(k) => at_machine(s, rest, k, p),
+    }
+}
+
+pub fn deliver_step(s: LockState, i: u8) -> Stepped
+    requires { ⌜ (Ready s) × (i < s .wire .len) ⌝ }
+    ensures { λ r. ⌜ r ≡ deliverStep s i ⌝ }
+{
+    let w = s.wire;
+    let p = packet_at(w, i);
+    let rest = take_off(w, i);
+    let to = p.to;
+    deliver_packet(to, s, rest, p)
+}
+
+pub fn deliver_within(s: LockState, i: u8) -> Stepped
+    requires { ⌜ lockFormed s ≡ true ⌝ }
+    ensures { λ r. ⌜ r ≡ deliverWithin s i ⌝ }
+{
+    if i < s.wire.len {
+        deliver_step(s, i)
+    } else {
+        refuse(Refusal::IndexRange, s)
+    }
+}

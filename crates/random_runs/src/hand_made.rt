@@ -1,0 +1,210 @@
+// docs/random-runs.md, 'Hand-made states': the lock, with the faults 10 to 12, and the cluster.
+ghost use Prim.Native.Nat.{_≤_};
+use crate::agent::agent;
+use crate::agent::agent_slot;
+use crate::agent::incarnation;
+use crate::agent::no_agent;
+use crate::fault::Fault;
+use crate::fault::fault_at;
+use crate::generator::draw;
+use crate::packet::blank_packet;
+use crate::packet::packet;
+use model::Address;
+use model::AgentSlot;
+use model::ClientId;
+use model::ClientState;
+use model::Cluster;
+use model::Decider;
+use model::LockState;
+use model::MachineId;
+use model::Message;
+use model::Mode;
+use model::Owner;
+use model::Packet;
+use model::Status;
+use model::Wire;
+use std::num::wrapping_add_u8;
+
+// 0 free, 1 exclusive, 2 and 3 shared.
+fn owner(k: u8, machine: u8) -> Owner {
+    match k {
+        0 => Owner::Free,
+        1 => Owner::Owned(Mode::Exclusive, MachineId(machine)),
+        _ => Owner::Owned(Mode::Shared, MachineId(machine)),
+    }
+}
+
+// Item 2, with fault 10.
+fn decider(s: &mut u32, f: Fault) -> Decider {
+    let k = draw(s, 4);
+    let machine = draw(s, 4);
+    let n = incarnation(s);
+    let o = if f.kind == 10 {
+        owner(k, wrapping_add_u8(4, f.value))
+    } else {
+        owner(k, machine)
+    };
+    Decider {
+        owner: o,
+        incarnation: n,
+    }
+}
+
+// The agent of machine k is there if x is below this.
+fn agent_odds(o: Owner, k: u8) -> u8 {
+    match o {
+        Owner::Free => 1,
+        Owner::Owned(_, m) => if m.0 == k { 6 } else { 1 },
+    }
+}
+
+// Item 3 for machine k.
+fn on_machine(s: &mut u32, o: Owner, k: u8, f: Fault) -> AgentSlot {
+    let x = draw(s, 8);
+    let a = agent(s);
+    agent_slot(x < agent_odds(o, k), a, fault_at(f, k), f.value)
+}
+
+// Item 3 for all.
+fn agents(s: &mut u32, o: Owner, f: Fault) -> [AgentSlot; 4] {
+    let none = no_agent();
+    let mut slots = [none; 4];
+    let mut k: u8 = 0;
+    while k < 4 {
+        let x = on_machine(s, o, k, f);
+        slots[k as usize] = x;
+        k += 1;
+    }
+    slots
+}
+
+fn status(n: u8) -> Status {
+    match n {
+        2 => Status::Waiting(Mode::Exclusive),
+        3 => Status::Waiting(Mode::Shared),
+        6 => Status::Holding(Mode::Exclusive),
+        7 => Status::Holding(Mode::Shared),
+        _ => Status::Idle,
+    }
+}
+
+// Item 4 for one client.
+fn client(s: &mut u32) -> ClientState {
+    let x = status(draw(s, 8));
+    ClientState { status: x }
+}
+
+// Item 4 for all.
+fn clients(s: &mut u32) -> [ClientState; 16] {
+    let idle = ClientState {
+        status: Status::Idle,
+    };
+    let mut states = [idle; 16];
+    for i in 0..16 {
+        let x = client(s);
+        states[i] = x;
+    }
+    states
+}
+
+// Item 5: the wire's slots, with n packets.
+fn packets(s: &mut u32, n: u8, f: Fault) -> [Packet; 33]
+    requires { ⌜ n ≤ 33 ⌝ }
+{
+    let blank = blank_packet();
+    let mut slots = [blank; 33];
+    let mut i: u8 = 0;
+    while i < n {
+        let p = packet(s, fault_at(f, 4 + i), f.value);
+        slots[i as usize] = p;
+        i += 1;
+    }
+    slots
+}
+
+fn stray_packet() -> Packet {
+    let carried = no_agent();
+    Packet {
+        message: Message::Release {
+            client: ClientId(1),
+        },
+        to: Address::Decider,
+        rejected: false,
+        carried,
+    }
+}
+
+// The wire with the faults 11 and 12.
+fn wire(slots: [Packet; 33], n: u8, f: Fault) -> Wire {
+    let mut w = Wire { slots, len: n };
+    if f.kind == 11 {
+        w.len = 34 + f.value % 222;
+    }
+    if f.kind == 12 {
+        if n < 33 {
+            let p = stray_packet();
+            w.slots[32] = p;
+        }
+    }
+    w
+}
+
+// The page's table of lengths.
+fn wire_length(i: u8) -> u8
+    ensures { λ r. ⌜ r ≤ 33 ⌝ }
+{
+    match i {
+        0 | 1 => 0,
+        2 | 3 | 4 => 1,
+        5 | 6 | 7 => 2,
+        8 | 9 => 3,
+        10 => 4,
+        11 => 5,
+        12 => 6,
+        13 => 31,
+        14 => 32,
+        _ => 33,
+    }
+}
+
+// Fault 11 wants all 33 slots drawn.
+fn packet_count(kind: u8, i: u8) -> u8
+    ensures { λ r. ⌜ r ≤ 33 ⌝ }
+{
+    if kind == 11 { 33 } else { wire_length(i) }
+}
+
+// A lock; item 1 gives its fault and the number of its packets.
+fn lock(s: &mut u32) -> LockState {
+    let kind = draw(s, 16);
+    let value = draw(s, 239);
+    let n = packet_count(kind, draw(s, 16));
+    let slot = draw(s, 4 + n as u16);
+    let f = Fault { kind, value, slot };
+    let decider = decider(s, f);
+    let o = decider.owner;
+    let agents = agents(s, o, f);
+    let clients = clients(s);
+    let slots = packets(s, n, f);
+    let wire = wire(slots, n, f);
+    LockState {
+        decider,
+        agents,
+        clients,
+        wire,
+    }
+}
+
+// The cluster of a seed.
+pub fn cluster(s: &mut u32, seed: u32) -> Cluster {
+    let mut x = engine::fresh();
+    let at = (seed % 8) as usize;
+    let a = lock(s);
+    x.locks[at] = a;
+    if (seed / 8) % 2 == 1 {
+        let next = ((seed % 8 + 1) % 8) as usize;
+        let b = lock(s);
+        x.locks[next] = b;
+    }
+    x
+}

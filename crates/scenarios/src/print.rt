@@ -1,0 +1,25 @@
+// Standard output, piece by piece.
+use libc::STDOUT_FILENO;
+
+pub fn text(s: &[u8]) {
+    io::write_all(STDOUT_FILENO, s);
+}
+
+pub fn number(n: u8) {
+    let mut digits = [0u8; 20];
+    let k = io::decimal(n as u64, &mut digits);
+    text(&digits[..k]);
+}
+
+// A client is written machine/task.
+pub fn client(k: u8, t: u8) {
+    number(k);
+    text(b"/");
+    number(t);
+}
+
+// A line that heads others.
+pub fn heading(s: &[u8]) {
+    text(s);
+    text(b"\n");
+}

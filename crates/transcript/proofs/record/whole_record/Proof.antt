@@ -1,0 +1,20 @@
+-- `record::whole_record` meets its contract: at each `return` the tests that led there say which case of `wholeRecord` holds.
+-- Assumes nothing.
+use mathlib.Core.Logic.{⊎-elim}
+use native.Mathlib.Omega.{arith}
+use borrow.Author.Needs.{needs}
+use borrow.Author.Tests.{eq-eqb, ne-eqb, leb-true}
+use Rattle.transcript.proofs.record.whole_record.Statement.{statement}
+use Rattle.transcript.proofs.record.whole_record.Tie as tie
+
+add-next : tie.Need-add-t11
+add-next c = omega (arith, leb-true)
+
+returns : tie.Need-returns
+returns c = rw (← c .before .before .short-at .ensures, eq-eqb _ _ (c .before .if1 .taken), c .if2 .taken)
+
+returns-2 : tie.Need-returns-2
+returns-2 c = ⊎-elim (λ w. rw (← c .before .short-at .ensures, eq-eqb _ _ (w .0 .taken), w .1 .left)) (λ w. rw (← c .before .short-at .ensures, ne-eqb _ _ (w .left))) (c .if1 .came)
+
+pub whole-record-spec : {M : Type 1} → statement M
+whole-record-spec = tie.close (tie.spec (λ c κs. search needs) (λ c. search needs) add-next returns returns-2)
