@@ -45,6 +45,11 @@ enum Action {
 impl Cluster {
     pub fn deliver(&mut self, lock: LockId, place: u8) -> Outcome {
         self.check_well_formed()?;
+        self.deliver_checked(lock, place)
+    }
+
+    /// A delivery on a cluster that is known to be well formed.
+    pub(crate) fn deliver_checked(&mut self, lock: LockId, place: u8) -> Outcome {
         let state = self.lock_mut(lock)?;
         state.deliver(usize::from(place))
     }

@@ -9,6 +9,17 @@ use crate::model::{
 impl Cluster {
     pub fn acquire(&mut self, lock: LockId, machine: MachineId, task: TaskId, mode: u8) -> Outcome {
         self.check_well_formed()?;
+        self.acquire_checked(lock, machine, task, mode)
+    }
+
+    /// An acquire on a cluster that is known to be well formed.
+    pub(crate) fn acquire_checked(
+        &mut self,
+        lock: LockId,
+        machine: MachineId,
+        task: TaskId,
+        mode: u8,
+    ) -> Outcome {
         let state = self.lock_mut(lock)?;
         let client = checked_client(machine, task)?;
         let mode = Mode::from_number(mode).ok_or(Refusal::ModeInvalid)?;
@@ -17,6 +28,16 @@ impl Cluster {
 
     pub fn release(&mut self, lock: LockId, machine: MachineId, task: TaskId) -> Outcome {
         self.check_well_formed()?;
+        self.release_checked(lock, machine, task)
+    }
+
+    /// A release on a cluster that is known to be well formed.
+    pub(crate) fn release_checked(
+        &mut self,
+        lock: LockId,
+        machine: MachineId,
+        task: TaskId,
+    ) -> Outcome {
         let state = self.lock_mut(lock)?;
         let client = checked_client(machine, task)?;
         state.release(client)

@@ -47,6 +47,18 @@ impl Record {
         }
     }
 
+    /// The same on a cluster that is known to be well formed: each call keeps
+    /// it so, and a run tests it once.
+    fn run_checked(&self, cluster: &mut Cluster) -> Outcome {
+        match *self {
+            Record::Acquire(lock, machine, task, mode) => {
+                cluster.acquire_checked(lock, machine, task, mode)
+            }
+            Record::Release(lock, machine, task) => cluster.release_checked(lock, machine, task),
+            Record::Deliver(lock, place) => cluster.deliver_checked(lock, place),
+        }
+    }
+
     fn parse(kind: u16, arguments: &[u8]) -> Option<Record> {
         match (kind, arguments) {
             (1, &[lock, machine, task, mode]) => Some(Record::Acquire(
@@ -135,7 +147,7 @@ impl Cluster {
             match read {
                 // "a refused step inside it doesn't stop the reading"
                 Ok(step) => {
-                    let outcome = step.run(self);
+                    let outcome = step.run_checked(self);
                     show(record, &step, outcome, self);
                 }
                 Err(refusal) => {

@@ -47,7 +47,8 @@ pub fn acquire(x: Cluster, lock: LockId, machine: MachineId, task: TaskId, mode:
 {
     if well_formed(x) {
         if lock.0 < 8 {
-            let r = acquire_within(lock_in(x, lock), machine, task, mode);
+            let s = lock_in(x, lock);
+            let r = acquire_within(s, machine, task, mode);
             let a = r.answer;
             settle(a, x, lock, r.state)
         } else {
@@ -63,7 +64,8 @@ pub fn release(x: Cluster, lock: LockId, machine: MachineId, task: TaskId) -> Ou
 {
     if well_formed(x) {
         if lock.0 < 8 {
-            let r = release_within(lock_in(x, lock), machine, task);
+            let s = lock_in(x, lock);
+            let r = release_within(s, machine, task);
             let a = r.answer;
             settle(a, x, lock, r.state)
         } else {
@@ -80,7 +82,8 @@ pub fn deliver(x: Cluster, lock: LockId, index: u8) -> Outcome
 {
     if well_formed(x) {
         if lock.0 < 8 {
-            let r = deliver_within(lock_in(x, lock), index);
+            let s = lock_in(x, lock);
+            let r = deliver_within(s, index);
             let a = r.answer;
             settle(a, x, lock, r.state)
         } else {
