@@ -48,9 +48,9 @@ pub fn acquire(x: Cluster, lock: LockId, machine: MachineId, task: TaskId, mode:
     if well_formed(x) {
         if lock.0 < 8 {
             let s = lock_in(x, lock);
-            let r = acquire_within(s, machine, task, mode);
-            let a = r.answer;
-            settle(a, x, lock, r.state)
+            let asked = acquire_within(s, machine, task, mode);
+            let a = asked.answer;
+            settle(a, x, lock, asked.state)
         } else {
             refuse_call(Refusal::LockRange, x)
         }
@@ -65,9 +65,9 @@ pub fn release(x: Cluster, lock: LockId, machine: MachineId, task: TaskId) -> Ou
     if well_formed(x) {
         if lock.0 < 8 {
             let s = lock_in(x, lock);
-            let r = release_within(s, machine, task);
-            let a = r.answer;
-            settle(a, x, lock, r.state)
+            let released = release_within(s, machine, task);
+            let a = released.answer;
+            settle(a, x, lock, released.state)
         } else {
             refuse_call(Refusal::LockRange, x)
         }
@@ -83,9 +83,9 @@ pub fn deliver(x: Cluster, lock: LockId, index: u8) -> Outcome
     if well_formed(x) {
         if lock.0 < 8 {
             let s = lock_in(x, lock);
-            let r = deliver_within(s, index);
-            let a = r.answer;
-            settle(a, x, lock, r.state)
+            let delivered = deliver_within(s, index);
+            let a = delivered.answer;
+            settle(a, x, lock, delivered.state)
         } else {
             refuse_call(Refusal::LockRange, x)
         }
