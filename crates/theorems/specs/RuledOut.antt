@@ -1,14 +1,20 @@
 -- What the contracts rule out. An engine is what a program answers to each call on each cluster; it meets the contracts where it equals
 -- the model. None of the following behaviours meets them, by the scenario that document 01 names for it.
 use mathlib.Core.Path.{_≡_, refl, sym, ap, _∙_}
-use mathlib.Core.Bool.{true≢false}
+use mathlib.Core.Bool.{not, true≢false}
 use mathlib.Core.List.{List, [], _∷_}
-use Prim.Native.Nat.{ℕ}
+use Prim.Native.Nat.{ℕ, zero, suc}
 use native.Mathlib.Omega.{arith}
-use Rattle.theorems.specs.Names.{LockId, MachineId, Mode, Shared, Owned, AgentSlot, Cluster, Call, AcquireCall, DeliverCall, LockRange, Refusal, Answer, Accepted, Refused, Outcome}
-use lib.ListN.{getD}
+use Rattle.theorems.specs.Names.{LockId, MachineId, Mode, Shared, Owned, AgentSlot, Cluster, Call, AcquireCall, DeliverCall, LockRange, Refusal, Answer, Accepted, Refused, Outcome, Malformed, LockState, Drained}
+use lib.ListN.{length, getD}
+use lib.Dec.{leb}
 use Rattle.model.specs.States.{noAgent, wireOf, lockIn, freshLock}
+use Rattle.model.specs.WellFormed.{wellFormed}
+use Rattle.model.specs.Refusals.{_when_, first}
 use Rattle.model.specs.Calls.{perform, run, answersOf}
+use Rattle.model.specs.Drain.{Next, none, some, nextCall, Quiescent, Drainage, drainage, drainCalls, drainRefused, drainEnded, drainUnless, drain}
+use Rattle.laws.specs.Opened.{lockOf, perform-elsewhere}
+use Rattle.laws.specs.Next.{NextIs, delivers-first, releases-holder, next-is}
 use Rattle.theorems.specs.Scenarios.{Result, scenarios, scenarios-hold, machine, on, acquires0, delivers0, with0, d1, d3-rejected, d4}
 
 abbrev pub Engine : Type 0
@@ -83,3 +89,63 @@ shifts-only e m f =
     let same : lockIn (e (delivers0 2) x .cluster) (on 0) .agents ≡ d3-rejected .agents = f (on 0) 2 x Shared (machine 0) refl in
     let done : e (delivers0 2) x .cluster ≡ with0 d4 = ap (λ (o : Outcome). o .cluster) (m (delivers0 2) x) ∙ d4-run in
     true≢false (ap (λ (slots : List AgentSlot). getD slots 0 noAgent .present) (rw done at same))
+
+-- ---- drains: what a program answers to each drain of each cluster, made by hand or not
+abbrev pub Drainer : Type 0
+Drainer = Cluster → LockId → Drained
+
+abbrev pub MeetsDrain : Drainer → Type 0
+MeetsDrain f = (x : Cluster) (l : LockId) → f x l ≡ drain x l
+
+-- what holds of the calls of any drain
+record Own (x : Cluster) (l : LockId) (d : Drainage) : Type 0 where
+  quiescent : d .answer ≡ Accepted → Quiescent l (lockIn (d .cluster) l)
+  others : (j : LockId) → (j .0 ≡ l .0 → ⊥) → lockIn (d .cluster) j ≡ lockIn x j
+
+next-lock : (l : LockId) (s : LockState) (a : Call) → NextIs l s a → lockOf a ≡ l
+next-lock l s _ (delivers-first b) = refl
+next-lock l s _ (releases-holder k t m i b e st) = refl
+
+own : (n : ℕ) (l : LockId) (x : Cluster) → Own x l (drainage n l x)
+unfolding drainage
+own zero l x = go (nextCall l (lockIn x l)) refl
+  where
+    go : (m : Next) → nextCall l (lockIn x l) ≡ m → Own x l (drainage zero l x)
+    go none e = rw (e, drainage) (record { quiescent = λ q. e; others = λ j h. refl })
+    go (some a) e = rw (e, drainage) (record { quiescent = λ q. absurd (apart _ (sym q)); others = λ j h. refl })
+own (suc n) l x = go (nextCall l (lockIn x l)) refl (own n l)
+  where
+    step : (a : Call) → nextCall l (lockIn x l) ≡ some a → (r : Answer) → perform a x .answer ≡ r → Own (perform a x .cluster) l (drainage n l (perform a x .cluster)) → Own x l (drainage (suc n) l x)
+    step a e Accepted q o =
+        rw (e, drainage) (rw q
+        (record { quiescent = o .quiescent; others = λ j h. o .others j h ∙ perform-elsewhere a x j (rw (next-lock l (lockIn x l) a (next-is l (lockIn x l) a e)) h) }))
+    step a e (Refused r) q o = rw (e, drainage) (rw q (record { quiescent = λ w. absurd (apart r (sym w)); others = λ j h. refl }))
+
+    go : (m : Next) → nextCall l (lockIn x l) ≡ m → ((y : Cluster) → Own y l (drainage n l y)) → Own x l (drainage (suc n) l x)
+    go none e ih = rw (e, drainage) (record { quiescent = λ q. e; others = λ j h. refl })
+    go (some a) e ih = step a e (perform a x .answer) refl (ih (perform a x .cluster))
+
+-- a drain that answers 0 counts the rule's own steps and ends where the rule has none left; and no drain touches another lock
+pub record Honest (x : Cluster) (l : LockId) (d : Drained) : Type 0 where
+  pub counted : d .answer ≡ Accepted → d .count ≡ length (drainCalls l x)
+  pub ended : d .answer ≡ Accepted → Quiescent l (lockIn (d .cluster) l)
+  pub others : (j : LockId) → (j .0 ≡ l .0 → ⊥) → lockIn (d .cluster) j ≡ lockIn x j
+
+refused-honest : (x : Cluster) (l : LockId) (r : Refusal) → Honest x l (drainRefused r x)
+refused-honest x l r = record { counted = λ e. absurd (apart r (sym e)); ended = λ e. absurd (apart r (sym e)); others = λ j h. refl }
+
+drain-honest : (x : Cluster) (l : LockId) → Honest x l (drain x l)
+unfolding drain drainUnless drainEnded
+drain-honest x l = by-tests (first ((Malformed when not (wellFormed x)) ∷ (LockRange when leb 8 (l .0)) ∷ []))
+  where
+    by-end : (a : Answer) → drainage 16384 l x .answer ≡ a → Honest x l (drainEnded a x (drainage 16384 l x))
+    by-end Accepted e = record { counted = λ q. refl; ended = λ q. own 16384 l x .quiescent e; others = own 16384 l x .others }
+    by-end (Refused r) e = refused-honest x l r
+
+    by-tests : (a : Answer) → Honest x l (drainUnless a l x)
+    by-tests Accepted = by-end (drainage 16384 l x .answer) refl
+    by-tests (Refused r) = refused-honest x l r
+
+-- so an invented step count, an early stop and a touched neighbour are each ruled out
+pub drainers-honest : (f : Drainer) → MeetsDrain f → (x : Cluster) (l : LockId) → Honest x l (f x l)
+drainers-honest f m x l = rw (m x l) (drain-honest x l)
