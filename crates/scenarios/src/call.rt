@@ -59,6 +59,24 @@ pub fn deliver(x: Cluster, l: u8, index: u8) -> Cluster {
     answered(x, o)
 }
 
+// A drain of lock l: its answer and its steps.
+pub fn drain(x: Cluster, l: u8) -> Cluster {
+    print::text(b"drain ");
+    print::number(l);
+    let d = engine::drain(x, LockId(l));
+    let a = d.answer;
+    let y = d.cluster;
+    print::text(b": ");
+    print::number(a.number());
+    print::text(b" steps ");
+    print::long(d.count);
+    if a.number() != 0 {
+        compared(x, y);
+    }
+    print::text(b"\n");
+    y
+}
+
 // A delivery in two states that differ in what the heading says; the second state has it.
 pub fn compare(heading: &[u8], without: LockState, with: LockState) {
     print::heading(heading);

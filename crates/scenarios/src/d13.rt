@@ -1,5 +1,6 @@
 // D13: a FREE stays on the wire while all sixteen clients are granted and release, their marked ACQUIREs undelivered.
 use crate::call;
+use crate::drains;
 use crate::print;
 use crate::show;
 use model::Cluster;
@@ -65,4 +66,5 @@ pub fn run() {
     show::decider(x);
     show::machines(x);
     full(x);
+    drains::full(x);
 }

@@ -5,6 +5,7 @@ mod cannot_place;
 mod d11;
 mod d12;
 mod d13;
+mod drains;
 mod malformed;
 mod order;
 mod print;
@@ -24,4 +25,5 @@ fn main() {
     order::run();
     malformed::run();
     unused::run();
+    drains::run();
 }

@@ -5,10 +5,14 @@ pub fn text(s: &[u8]) {
     io::write_all(STDOUT_FILENO, s);
 }
 
-pub fn number(n: u8) {
+pub fn long(n: u16) {
     let mut digits = [0u8; 20];
     let k = io::decimal(n as u64, &mut digits);
     text(&digits[..k]);
+}
+
+pub fn number(n: u8) {
+    long(n as u16);
 }
 
 // A client is written machine/task.
