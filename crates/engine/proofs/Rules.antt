@@ -25,4 +25,4 @@ pub use Rattle.engine.specs.Deciding.{owner-sent, free-current, free-sta
 pub use Rattle.engine.specs.Admits.{room-left}
 pub use Rattle.engine.specs.Asking.{acquires-here, acquires-far}
 pub use Rattle.engine.specs.Within.{in-range, first-no, malformed, out-of-range, acquire-within, release-within, deliver-within}
-unfoldable pub use Rattle.engine.specs.Within.{stepUnless, acquireWithin, releaseWithin, deliverWithin}
+unfoldable pub use Rattle.engine.specs.Within.{stepUnless, acquireWithin, releaseWithin, deliverWithin, callWithin}

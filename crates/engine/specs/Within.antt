@@ -4,19 +4,22 @@ use mathlib.Core.Path.{_≡_, refl, sym, ap, _∙_}
 use mathlib.Core.Bool.{Bool, true, false, _||_, not}
 use mathlib.Core.List.{List, [], _∷_}
 use Prim.Native.Nat.{ℕ, _<_, _≤_}
-use lib.ListN.{length, getD}
+use lib.ListN.{length, getD, set}
+use lib.Seq.{set-getD}
 use lib.Dec.{eqb, leb}
 use borrow.Author.Tests.{le-leb, lt-leb, leb-false, eqb-true}
 use native.Mathlib.Omega.{arith}
-use Rattle.engine.specs.Names.{LockId, MachineId, TaskId, ClientId, Refusal, Malformed, LockRange, MachineRange, TaskRange, ModeRange, NotIdle, StillNamed, NotHolding, IndexRange, Answer, Accepted, Refused, LockState, Cluster, Stepped, Outcome}
+use Rattle.engine.specs.Names.{LockId, MachineId, TaskId, ClientId, Refusal, Malformed, LockRange, MachineRange, TaskRange, ModeRange, NotIdle, StillNamed, NotHolding, IndexRange, Answer, Accepted, Refused, LockState, Cluster, Call, AcquireCall, ReleaseCall, DeliverCall, Stepped, Outcome}
 use Rattle.model.specs.Lists.{any, all}
 use Rattle.model.specs.States.{machines, tasks, clientOf, modeOf, statusOf, packets, freshLock, lockIn}
 use Rattle.model.specs.WellFormed.{lockFormed, wellFormed}
 use Rattle.model.specs.Changes.{refused}
 use Rattle.model.specs.Refusals.{Cause, _when_, first}
-use Rattle.model.specs.Calls.{isIdle, isHolding, names, acquireStep, releaseStep, deliverStep, refusing, settled, unless, acquire, release, deliver}
+use Rattle.model.specs.Calls.{isIdle, isHolding, names, acquireStep, releaseStep, deliverStep, refusing, settled, unless, acquire, release, deliver, perform}
 use Rattle.laws.specs.Tests.{and-left, and-right}
 use Rattle.laws.specs.Lists.{all-at}
+use Rattle.laws.specs.Opened.{lockOf, stepOf, step-refused}
+use Rattle.laws.specs.Clusters.{perform-formed}
 
 -- ---- the tests that are left, in document 01's order, and then the step
 abbrev pub idleTests : LockState → ClientId → List Cause
@@ -112,3 +115,49 @@ module _ (x : Cluster) (l : LockId) where
       → deliver x l i ≡ settled (deliverWithin (lockIn x l) i .answer) x l (deliverWithin (lockIn x l) i .state)
   unfolding deliver deliverWithin
   deliver-within i e h = entered _ (lockIn x l) _ e h
+
+-- ---- a call as data on its lock's state
+unfoldable pub callWithin : Call → LockState → Stepped
+callWithin (AcquireCall l k t m) s = acquireWithin s k t m
+callWithin (ReleaseCall l k t) s = releaseWithin s k t
+callWithin (DeliverCall l i) s = deliverWithin s i
+
+pub perform-within : (c : Call) (x : Cluster) → wellFormed x ≡ true → lockOf c .0 < 8
+    → perform c x ≡ settled (callWithin c (lockIn x (lockOf c)) .answer) x (lockOf c) (callWithin c (lockIn x (lockOf c)) .state)
+unfolding perform callWithin
+perform-within (AcquireCall l k t m) x e h = acquire-within x l k t m e h
+perform-within (ReleaseCall l k t) x e h = release-within x l k t e h
+perform-within (DeliverCall l i) x e h = deliver-within x l i e h
+
+pub perform-range : (c : Call) (x : Cluster) → wellFormed x ≡ true → 8 ≤ lockOf c .0 → perform c x ≡ refusing LockRange x
+unfolding perform acquire release deliver
+perform-range (AcquireCall l k t m) x e h = out-of-range x l _ _ e h
+perform-range (ReleaseCall l k t) x e h = out-of-range x l _ _ e h
+perform-range (DeliverCall l i) x e h = out-of-range x l _ _ e h
+
+-- a refused call leaves its lock's state
+unless-refused : (a : Answer) (s : LockState) (c : Call) (r : Refusal) → stepUnless a s (stepOf c s) .answer ≡ Refused r → stepUnless a s (stepOf c s) .state ≡ s
+unfolding stepUnless
+unless-refused Accepted s c r e = step-refused c s r e
+unless-refused (Refused n) s c r e = refl
+
+within-refused : (c : Call) (s : LockState) (r : Refusal) → callWithin c s .answer ≡ Refused r → callWithin c s .state ≡ s
+unfolding callWithin acquireWithin releaseWithin deliverWithin
+within-refused (AcquireCall l k t m) s r e = unless-refused (first (acquireTests s k t m)) s (AcquireCall l k t m) r e
+within-refused (ReleaseCall l k t) s r e = unless-refused (first (releaseTests s k t)) s (ReleaseCall l k t) r e
+within-refused (DeliverCall l i) s r e = unless-refused (first (deliverTests s i)) s (DeliverCall l i) r e
+
+-- A call writes its lock's state in its place, accepted or refused.
+abbrev pub writtenBy : Call → Cluster → Cluster
+writtenBy c x = record { locks = set (x .locks) (lockOf c .0) (callWithin c (lockIn x (lockOf c)) .state) }
+
+pub perform-written : (c : Call) (x : Cluster) → wellFormed x ≡ true → lockOf c .0 < 8 → perform c x .cluster ≡ writtenBy c x
+unfolding settled
+perform-written c x e h = rw (perform-within c x e h) (go (callWithin c (lockIn x (lockOf c)) .answer) refl)
+  where
+    go : (a : Answer) → callWithin c (lockIn x (lockOf c)) .answer ≡ a → settled a x (lockOf c) (callWithin c (lockIn x (lockOf c)) .state) .cluster ≡ writtenBy c x
+    go Accepted q = refl
+    go (Refused r) q = rw (within-refused c (lockIn x (lockOf c)) r q, set-getD (x .locks) (lockOf c .0) freshLock)
+
+pub written-formed : (c : Call) (x : Cluster) → wellFormed x ≡ true → lockOf c .0 < 8 → wellFormed (writtenBy c x) ≡ true
+written-formed c x e h = rw (← perform-written c x e h) (perform-formed c x e)

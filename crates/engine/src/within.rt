@@ -10,7 +10,9 @@ use crate::wire::packet_at;
 use crate::wire::take_off;
 use model::Address;
 use model::Answer;
+use model::Call;
 use model::ClientId;
+use model::LockId;
 use model::LockState;
 use model::MachineId;
 use model::Mode;
@@ -31,7 +33,8 @@ ghost use Rattle.model.specs.Refusals.{first};
 ghost use Rattle.model.specs.Calls.{isIdle, isHolding, delivers, deliverStep};
 ghost use Rattle.laws.specs.Shapes.{CanonicalWire, CanonicalQueue};
 ghost use Rattle.laws.specs.Formed.{Ready};
-ghost use Rattle.engine.specs.Within.{idleTests, acquireTests, holdingTests, releaseTests, acquireWithin, releaseWithin, deliverWithin};
+ghost use Rattle.laws.specs.Opened.{lockOf};
+ghost use Rattle.engine.specs.Within.{idleTests, acquireTests, holdingTests, releaseTests, acquireWithin, releaseWithin, deliverWithin, callWithin};
 
 pub fn client_of(k: MachineId, t: TaskId) -> ClientId
     requires { ⌜ (k .0 < 4) × (t .0 < 4) ⌝ }
@@ -183,5 +186,45 @@ pub fn deliver_within(s: LockState, i: u8) -> Stepped
         deliver_step(s, i)
     } else {
         refuse(Refusal::IndexRange, s)
+    }
+}
+
+pub fn lock_of(c: Call) -> LockId
+    ensures { λ r. ⌜ r ≡ lockOf c ⌝ }
+{
+    match c {
+        Call::Acquire {
+            lock,
+            machine: _,
+            task: _,
+            mode: _,
+        } => lock,
+        Call::Release {
+            lock,
+            machine: _,
+            task: _,
+        } => lock,
+        Call::Deliver { lock, index: _ } => lock,
+    }
+}
+
+// The call on the state of its lock.
+pub fn call_within(c: Call, s: LockState) -> Stepped
+    requires { ⌜ lockFormed s ≡ true ⌝ }
+    ensures { λ r. ⌜ r ≡ callWithin c s ⌝ }
+{
+    match c {
+        Call::Acquire {
+            lock: _,
+            machine,
+            task,
+            mode,
+        } => acquire_within(s, machine, task, mode),
+        Call::Release {
+            lock: _,
+            machine,
+            task,
+        } => release_within(s, machine, task),
+        Call::Deliver { lock: _, index } => deliver_within(s, index),
     }
 }

@@ -1,0 +1,152 @@
+//! The proved engine beside the reference, on the same work, in one run on one machine, both built for release. Each figure is the best of
+//! several rounds in which the two take turns.
+
+use std::hint::black_box;
+use std::time::Instant;
+
+use reference::digest::Digest;
+use reference::generator::Generator;
+use reference::model::{ClientId, ClientStatus, Cluster, LockId, MachineId, TaskId};
+use reference::transcript::{Record, Records};
+
+extern "C" {
+    fn domezatsy_digest(bytes: *const u8, len: usize) -> u32;
+    fn domezatsy_replays(bytes: *const u8, len: usize, times: u32) -> u32;
+    fn domezatsy_calls(bytes: *const u8, len: usize) -> u32;
+    fn domezatsy_drains(bytes: *const u8, len: usize, lock: u8, times: u32) -> u32;
+}
+
+const ROUNDS: usize = 9;
+const DRAINS: u32 = 2_000;
+
+/// A record's bytes.
+fn encode(record: &Record) -> Vec<u8> {
+    let fields: Vec<u8> = match *record {
+        Record::Acquire(lock, machine, task, mode) => vec![lock.0, machine.0, task.0, mode],
+        Record::Release(lock, machine, task) => vec![lock.0, machine.0, task.0],
+        Record::Deliver(lock, place) => vec![lock.0, place],
+    };
+    let mut bytes = vec![4 + fields.len() as u8, 0, record.kind() as u8, 0];
+    bytes.extend(fields);
+    bytes
+}
+
+/// A call that is nearly always accepted: a delivery from anywhere on the wire, or what the client can do next.
+fn choose(cluster: &Cluster, draws: &mut Generator, locks: u64) -> Record {
+    let lock = LockId(draws.draw(locks) as u8);
+    let (machine, task) = (MachineId(draws.draw(4) as u8), TaskId(draws.draw(4) as u8));
+    let state = &cluster.locks[lock.index()];
+    let wire = state.wire.len() as u64;
+    if wire > 0 && draws.draw(8) < 5 {
+        return Record::Deliver(lock, draws.draw(wire) as u8);
+    }
+    match state.clients[ClientId::new(machine, task).index()] {
+        ClientStatus::Idle => Record::Acquire(lock, machine, task, 2 + (draws.draw(4) > 0) as u8),
+        ClientStatus::Holding(_) => Record::Release(lock, machine, task),
+        _ => Record::Deliver(lock, 0),
+    }
+}
+
+/// A transcript of at most so many bytes over so many locks.
+fn transcript(seed: u64, limit: usize, locks: u64) -> Vec<u8> {
+    let mut draws = Generator::new(seed);
+    let mut cluster = Cluster::new();
+    let mut bytes = Vec::new();
+    loop {
+        let record = choose(&cluster, &mut draws, locks);
+        let _ = record.run(&mut cluster);
+        let more = encode(&record);
+        if bytes.len() + more.len() > limit {
+            return bytes;
+        }
+        bytes.extend(more);
+    }
+}
+
+/// The best time of each of two jobs, in nanoseconds, over rounds in which they take turns.
+fn race(mut ours: impl FnMut(), mut theirs: impl FnMut()) -> (f64, f64) {
+    let mut best = (f64::MAX, f64::MAX);
+    for _ in 0..ROUNDS {
+        let start = Instant::now();
+        ours();
+        best.0 = best.0.min(start.elapsed().as_nanos() as f64);
+        let start = Instant::now();
+        theirs();
+        best.1 = best.1.min(start.elapsed().as_nanos() as f64);
+    }
+    best
+}
+
+fn row(name: &str, best: (f64, f64), units: f64) {
+    let (ours, theirs) = (best.0 / units, best.1 / units);
+    println!("| {name} | {ours:.0} | {theirs:.0} | {:.2} |", ours / theirs);
+}
+
+fn run_of(bytes: &[u8], times: u32) -> (f64, f64) {
+    race(
+        || {
+            black_box(unsafe { domezatsy_replays(bytes.as_ptr(), bytes.len(), times) });
+        },
+        || {
+            for _ in 0..times {
+                black_box(Cluster::new().run_transcript(bytes));
+            }
+        },
+    )
+}
+
+fn calls_of(bytes: &[u8]) -> (f64, f64) {
+    race(
+        || {
+            black_box(unsafe { domezatsy_calls(bytes.as_ptr(), bytes.len()) });
+        },
+        || {
+            let mut cluster = Cluster::new();
+            for record in Records::new(bytes) {
+                let _ = black_box(record.expect("a good record").run(&mut cluster));
+            }
+        },
+    )
+}
+
+fn drains_of(bytes: &[u8], cluster: &Cluster) -> (f64, f64) {
+    race(
+        || {
+            black_box(unsafe { domezatsy_drains(bytes.as_ptr(), bytes.len(), 0, DRAINS) });
+        },
+        || {
+            for _ in 0..DRAINS {
+                black_box(cluster.clone().drain(LockId(0)).expect("a drain ends"));
+            }
+        },
+    )
+}
+
+/// The two programs agree on where the transcript leads before anything is measured.
+fn checked(bytes: &[u8]) -> (Cluster, f64) {
+    let mut cluster = Cluster::new();
+    let outcome = cluster.run_transcript(bytes);
+    let mut digest = Digest::new(0);
+    digest.cluster(&cluster);
+    let ours = unsafe { domezatsy_digest(bytes.as_ptr(), bytes.len()) };
+    assert_eq!(u64::from(ours), digest.value(), "the two programs differ");
+    (cluster, outcome.record as f64)
+}
+
+fn main() {
+    let short = transcript(1, 6_500, 2);
+    let full = transcript(2, 65_535, 2);
+    let busy = transcript(3, 3_000, 1);
+    let (_, short_records) = checked(&short);
+    let (_, full_records) = checked(&full);
+    let (mut cluster, _) = checked(&busy);
+    println!("| work | engine, ns | reference, ns | ratio |");
+    println!("|---|---|---|---|");
+    row(&format!("a step inside a run of {short_records}"), run_of(&short, 20), 20.0 * short_records);
+    row(&format!("a step inside a run of {full_records}"), run_of(&full, 2), 2.0 * full_records);
+    row("a public call", calls_of(&short), short_records);
+    row("a full-size transcript", run_of(&full, 1), 1.0);
+    let best = drains_of(&busy, &cluster);
+    let steps = cluster.drain(LockId(0)).expect("a drain ends");
+    row(&format!("a drain of {steps} steps"), best, f64::from(DRAINS));
+}

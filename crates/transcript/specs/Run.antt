@@ -1,0 +1,139 @@
+-- The run of a transcript, record by record: where a record ends, and what is left of the run behind it.
+use mathlib.Core.Path.{_≡_, refl, sym, ap, subst, _∙_}
+use mathlib.Core.Bool.{Bool, true, false, _&&_, not}
+use mathlib.Core.List.{List}
+use Prim.Native.Nat.{ℕ, suc, _+_, _-_, _*_, _<_, _≤_}
+use native.Mathlib.Omega.{arith}
+use lib.ListN.{length, getD, set}
+use lib.Dec.{eqb, leb, ltb}
+use borrow.Author.Tests.{leb-true, leb-false, lt-ltb, le-ltb}
+use Rattle.model.specs.declared.LockId.{LockId}
+use Rattle.model.specs.declared.LockState.{LockState}
+use Rattle.model.specs.declared.Cluster.{Cluster}
+use Rattle.model.specs.declared.Call.{Call}
+use Rattle.model.specs.declared.Refusal.the-variants.{Malformed, BadRecord, TranscriptLength}
+use Rattle.model.specs.declared.Answer.the-variants.{Accepted, Refused}
+use Rattle.model.specs.declared.Stepped.{Stepped}
+use Rattle.model.specs.declared.Outcome.{Outcome}
+use Rattle.model.specs.declared.Reading.{Reading}
+use Rattle.model.specs.declared.Reading.the-variants.{Record, Bad, End}
+use Rattle.model.specs.declared.Replayed.{Replayed}
+use Rattle.model.specs.Lists.{pick}
+use Rattle.model.specs.States.{freshLock}
+use Rattle.model.specs.WellFormed.{wellFormed}
+use Rattle.model.specs.Refusals.{first}
+use Rattle.model.specs.Calls.{perform}
+use Rattle.model.specs.Transcripts.{short, acquireAt, releaseAt, deliverAt, wholeRecord, readRecord, replayed, replayFrom, replayUnless, replay}
+use Rattle.laws.specs.Tests.{and-right}
+use Rattle.laws.specs.Lists.{getD-any}
+use Rattle.laws.specs.Formed.{eight}
+use Rattle.laws.specs.Opened.{lockOf}
+use Rattle.laws.specs.Clusters.{perform-formed}
+use Rattle.engine.specs.Within.{callWithin, perform-range, writtenBy, perform-written, written-formed}
+
+-- ---- a record has at least six bytes, and ends within the transcript
+data Ends (bytes : List ℕ) (i : ℕ) : Reading → Type 0 where
+  inside : {c : Call} {j : ℕ} → i + 6 ≤ j → j ≤ length bytes → Ends bytes i (Record c j)
+  bad : Ends bytes i Bad
+  end : Ends bytes i End
+
+ends-if : {bytes : List ℕ} {i : ℕ} (b : Bool) {r t : Reading} → (b ≡ true → Ends bytes i r) → (b ≡ false → Ends bytes i t) → Ends bytes i (pick b r t)
+ends-if true f g = f refl
+ends-if false f g = g refl
+
+whole-ends : (n : ℕ) (bytes : List ℕ) (i : ℕ) (c : Call) → 6 ≤ n → i ≤ length bytes → Ends bytes i (wholeRecord n bytes i c)
+whole-ends n bytes i c h k =
+    ends-if (eqb (short bytes i) n && leb n (length bytes - i))
+    (λ e. let m : n ≤ length bytes - i = leb-true n _ (and-right (eqb (short bytes i) n) _ e) in inside (omega arith) (omega arith)) (λ e. bad)
+
+reading-ends : (bytes : List ℕ) (i : ℕ) → Ends bytes i (readRecord bytes i)
+unfolding readRecord
+reading-ends bytes i =
+    ends-if (leb (length bytes) i) (λ e. end) (λ e.
+    let h : i ≤ length bytes = omega (arith, leb-false (length bytes) i e) in
+    ends-if (ltb (length bytes - i) 4) (λ e. bad) (λ e.
+    ends-if (eqb (short bytes (i + 2)) 1) (λ e. whole-ends 8 bytes i (acquireAt bytes i) (omega arith) h) (λ e.
+    ends-if (eqb (short bytes (i + 2)) 2) (λ e. whole-ends 7 bytes i (releaseAt bytes i) (omega arith) h) (λ e.
+    ends-if (eqb (short bytes (i + 2)) 3) (λ e. whole-ends 6 bytes i (deliverAt bytes i) (omega arith) h) (λ e. bad)))))
+
+pub record-ends : (bytes : List ℕ) (i : ℕ) (c : Call) (j : ℕ) → readRecord bytes i ≡ Record c j → (i + 6 ≤ j) × (j ≤ length bytes)
+record-ends bytes i c j e = go (rw e at (reading-ends bytes i))
+  where
+    go : Ends bytes i (Record c j) → (i + 6 ≤ j) × (j ≤ length bytes)
+    go (inside h k) = (h, k)
+
+-- ---- a call on its lock's state, written back in its place
+module _ (c : Call) (y : Cluster) (l : LockId) (d : LockState) (o : Stepped) (w : wellFormed y ≡ true) (e : l ≡ lockOf c) (h : l .0 < 8) (q : o ≡ callWithin c (getD (y .locks) (l .0) d)) where
+  in-place : _≡_ {A = Cluster} (record { locks = set (y .locks) (l .0) (o .state) }) (writtenBy c y)
+  in-place = rw (q, getD-any (y .locks) (l .0) d freshLock (omega (arith, eight y w)), e)
+
+  pub place-formed : wellFormed (record { locks = set (y .locks) (l .0) (o .state) }) ≡ true
+  place-formed = rw in-place (written-formed c y w (rw e at h))
+
+-- ---- one record of the run
+module _ (left : ℕ) (bytes : List ℕ) (i n : ℕ) (x : Cluster) where
+  from-record : (c : Call) (j : ℕ) → readRecord bytes i ≡ Record c j → replayFrom (suc left) bytes i n x ≡ replayFrom left bytes j (n + 1) (perform c x .cluster)
+  unfolding replayFrom
+  from-record c j e = rw (e, replayFrom)
+
+  from-bad : readRecord bytes i ≡ Bad → replayFrom (suc left) bytes i n x ≡ replayed (Refused BadRecord) (n + 1) x
+  unfolding replayFrom
+  from-bad e = rw (e, replayFrom)
+
+  from-end : readRecord bytes i ≡ End → replayFrom (suc left) bytes i n x ≡ replayed Accepted n x
+  unfolding replayFrom
+  from-end e = rw (e, replayFrom)
+
+-- ---- At the position i with n records behind it the cluster is y, and the rest of the run from there is the whole run.
+pub record Course (bytes : List ℕ) (x : Cluster) (i n : ℕ) (y : Cluster) : Type 0 where
+  pub left : replayFrom (suc (length bytes - n)) bytes i n y ≡ replayFrom (length bytes + 1) bytes 0 0 x
+  pub formed : wellFormed y ≡ true
+  pub behind : 6 * n ≤ i
+  pub inside : i ≤ length bytes
+
+pub course-start : (bytes : List ℕ) (x : Cluster) → wellFormed x ≡ true → Course bytes x 0 0 x
+course-start bytes x w =
+    let e : suc (length bytes - 0) ≡ length bytes + 1 = omega arith in
+    record { left = rw e; formed = w; behind = omega arith; inside = omega arith }
+
+module _ {bytes : List ℕ} {x : Cluster} {i n : ℕ} {y : Cluster} (p : Course bytes x i n y) where
+  pub course-on : (c : Call) (j : ℕ) → readRecord bytes i ≡ Record c j → Course bytes x j (n + 1) (perform c y .cluster)
+  course-on c j e =
+      let h = record-ends bytes i c j e in
+      let f : suc (length bytes - (n + 1)) ≡ length bytes - n = omega (arith, p .behind, h) in
+      record {
+        left = rw f (sym (from-record _ bytes i n y c j e) ∙ p .left);
+        formed = perform-formed c y (p .formed);
+        behind = omega (arith, p .behind, h);
+        inside = h .1;
+      }
+
+  pub course-step : (c : Call) (j : ℕ) (l : LockId) (d : LockState) (o : Stepped) → readRecord bytes i ≡ Record c j → l ≡ lockOf c → l .0 < 8
+      → o ≡ callWithin c (getD (y .locks) (l .0) d) → Course bytes x j (n + 1) (record { locks = set (y .locks) (l .0) (o .state) })
+  course-step c j l d o e q h f =
+      let w = p .formed in
+      rw (in-place c y l d o w q h f, ← perform-written c y w (rw q at h)) (course-on c j e)
+
+  pub course-skip : (c : Call) (j : ℕ) (l : LockId) → readRecord bytes i ≡ Record c j → l ≡ lockOf c → 8 ≤ l .0 → Course bytes x j (n + 1) y
+  course-skip c j l e q h =
+      let f = ap (λ (r : Outcome). r .cluster) (perform-range c y (p .formed) (rw q at h)) in
+      subst (λ (z : Cluster). Course bytes x j (n + 1) z) f (course-on c j e)
+
+  pub course-bad : readRecord bytes i ≡ Bad → replayed (Refused BadRecord) (n + 1) y ≡ replayFrom (length bytes + 1) bytes 0 0 x
+  course-bad e = sym (from-bad _ bytes i n y e) ∙ p .left
+
+  pub course-end : readRecord bytes i ≡ End → replayed Accepted n y ≡ replayFrom (length bytes + 1) bytes 0 0 x
+  course-end e = sym (from-end _ bytes i n y e) ∙ p .left
+
+-- ---- 11, then 13, before any record is run
+pub replay-malformed : (x : Cluster) (bytes : List ℕ) → wellFormed x ≡ false → replay x bytes ≡ replayed (Refused Malformed) 0 x
+unfolding replay replayUnless first
+replay-malformed x bytes e = rw e
+
+pub replay-long : (x : Cluster) (bytes : List ℕ) → wellFormed x ≡ true → 65535 < length bytes → replay x bytes ≡ replayed (Refused TranscriptLength) 0 x
+unfolding replay replayUnless first
+replay-long x bytes e h = rw (e, lt-ltb 65535 (length bytes) h)
+
+pub replay-runs : (x : Cluster) (bytes : List ℕ) → wellFormed x ≡ true → length bytes ≤ 65535 → replay x bytes ≡ replayFrom (length bytes + 1) bytes 0 0 x
+unfolding replay replayUnless first
+replay-runs x bytes e h = rw (e, le-ltb 65535 (length bytes) h)
