@@ -49,17 +49,21 @@ pub fn two_waiters(c: u8, d: u8) -> Queue {
     q
 }
 
-// All sixteen clients, in the order of their numbers.
-pub fn full_queue() -> Queue {
+// All sixteen clients, in the order of their numbers, in one mode.
+pub fn sixteen(m: u8) -> Queue {
     let blank = waiter(0, 2);
     let mut slots = [blank; 16];
     let mut i: u8 = 0;
     while i < 16 {
-        let w = waiter(i, 3);
+        let w = waiter(i, m);
         slots[i as usize] = w;
         i += 1;
     }
     Queue { slots, len: 16 }
+}
+
+pub fn full_queue() -> Queue {
+    sixteen(3)
 }
 
 // All but client 15.

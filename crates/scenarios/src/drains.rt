@@ -67,8 +67,16 @@ fn refused() {
     drained(b"a wire of 34", state::with_wire(state::free(), long));
 }
 
+// The most hand-overs from releasing to delivering that a state made by hand is known to have: one for each writer, and one at the end.
+fn writers() {
+    let a = build::held_by(build::agent(2, build::sixteen(2)), 0);
+    let s = state::with_slot(state::owned(2, 0), 0, build::present(a));
+    drained(b"a queue of 16 writers", state::with_holder(s, 0));
+}
+
 pub fn run() {
     print::heading(b"drains");
     reached();
+    writers();
     refused();
 }

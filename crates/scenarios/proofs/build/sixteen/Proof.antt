@@ -1,0 +1,13 @@
+use Prim.Native.Nat.{_-_}
+use borrow.Author.Needs.{needs}
+use Rattle.scenarios.proofs.build.sixteen.Statement.{statement}
+use Rattle.scenarios.proofs.build.sixteen.Tie as tie
+
+abbrev Inv-loop : tie.InvT-loop
+Inv-loop m slots₀ i₀ slots i = Unit
+
+abbrev μ-loop : tie.MeasureT-loop
+μ-loop m slots₀ i₀ slots i = 16 - i
+
+pub sixteen-spec : {M : Type 1} → statement M
+sixteen-spec = tie.close (tie.spec Inv-loop μ-loop (λ c κs. search needs) (λ c. search needs) (λ c κs. search needs) (λ c. search needs) (λ c. search needs) (λ c. search needs) (λ c. search needs) (λ c. search needs) (λ c. search needs) (λ c. search needs))
