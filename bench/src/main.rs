@@ -18,6 +18,10 @@ extern "C" {
 
 const ROUNDS: usize = 9;
 const DRAINS: u32 = 2_000;
+const COPIES: usize = 20_000;
+/// The sizes of the engine's states, which its functions take and give by value.
+const LOCK_BYTES: usize = 2_192;
+const CLUSTER_BYTES: usize = 17_536;
 
 /// A record's bytes.
 fn encode(record: &Record) -> Vec<u8> {
@@ -122,6 +126,21 @@ fn drains_of(bytes: &[u8], cluster: &Cluster) -> (f64, f64) {
     )
 }
 
+/// What passing a state by value costs by itself: so many bytes copied into a call and out of it.
+fn copies_of(size: usize) -> f64 {
+    let (mut state, mut passed) = (vec![0u8; size], vec![0u8; size]);
+    let mut best = f64::MAX;
+    for _ in 0..ROUNDS {
+        let start = Instant::now();
+        for _ in 0..COPIES {
+            black_box(&mut passed).copy_from_slice(black_box(&state));
+            black_box(&mut state).copy_from_slice(black_box(&passed));
+        }
+        best = best.min(start.elapsed().as_nanos() as f64);
+    }
+    best
+}
+
 /// The two programs agree on where the transcript leads before anything is measured.
 fn checked(bytes: &[u8]) -> (Cluster, f64) {
     let mut cluster = Cluster::new();
@@ -137,16 +156,27 @@ fn main() {
     let short = transcript(1, 6_500, 2);
     let full = transcript(2, 65_535, 2);
     let busy = transcript(3, 3_000, 1);
+    let all_locks = transcript(4, 6_500, 8);
     let (_, short_records) = checked(&short);
     let (_, full_records) = checked(&full);
+    let (_, all_records) = checked(&all_locks);
     let (mut cluster, _) = checked(&busy);
     println!("| work | engine, ns | reference, ns | ratio |");
     println!("|---|---|---|---|");
     row(&format!("a step inside a run of {short_records}"), run_of(&short, 20), 20.0 * short_records);
-    row(&format!("a step inside a run of {full_records}"), run_of(&full, 2), 2.0 * full_records);
-    row("a public call", calls_of(&short), short_records);
+    let steps = run_of(&full, 2);
+    row(&format!("a step inside a run of {full_records}"), steps, 2.0 * full_records);
+    let calls = calls_of(&short);
+    row("a public call, two locks in use", calls, short_records);
+    row("a public call, all locks in use", calls_of(&all_locks), all_records);
     row("a full-size transcript", run_of(&full, 1), 1.0);
     let best = drains_of(&busy, &cluster);
-    let steps = cluster.drain(LockId(0)).expect("a drain ends");
-    row(&format!("a drain of {steps} steps"), best, f64::from(DRAINS));
+    let drained = cluster.drain(LockId(0)).expect("a drain ends");
+    row(&format!("a drain of {drained} steps"), best, f64::from(DRAINS));
+    println!();
+    println!("| what passing by value costs by itself | ns | the reference's whole work, ns | ratio |");
+    println!("|---|---|---|---|");
+    let copies = COPIES as f64;
+    row("a lock's state, in and out of a step", (copies_of(LOCK_BYTES) / copies, steps.1 / (2.0 * full_records)), 1.0);
+    row("a cluster, in and out of a public call", (copies_of(CLUSTER_BYTES) / copies, calls.1 / short_records), 1.0);
 }

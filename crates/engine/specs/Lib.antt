@@ -1,13 +1,5 @@
--- What the code does to arrays, and laws that join it to the model's definitions over lists.
+-- What the code tests and loops over, and laws that join it to the model's calls and drain.
 pub mod Names
-pub mod Arrays
-pub mod Writes
-pub mod Scans
-pub mod Posts
-pub mod Leaving
-pub mod Admits
 pub mod FormedLaws
-pub mod Deciding
-pub mod Asking
 pub mod Within
 pub mod Sweep

@@ -88,11 +88,11 @@ module _ (x : Cluster) (l : LockId) where
   abbrev causes : List Cause → List Cause
   causes cs = (Malformed when not (wellFormed x)) ∷ (LockRange when leb 8 (l .0)) ∷ cs
 
-  pub malformed : (cs : List Cause) (r : Stepped) → wellFormed x ≡ false → unless (first (causes cs)) x l r ≡ refusing Malformed x
+  malformed : (cs : List Cause) (r : Stepped) → wellFormed x ≡ false → unless (first (causes cs)) x l r ≡ refusing Malformed x
   unfolding unless first
   malformed cs r e = rw e
 
-  pub out-of-range : (cs : List Cause) (r : Stepped) → wellFormed x ≡ true → 8 ≤ l .0 → unless (first (causes cs)) x l r ≡ refusing LockRange x
+  out-of-range : (cs : List Cause) (r : Stepped) → wellFormed x ≡ true → 8 ≤ l .0 → unless (first (causes cs)) x l r ≡ refusing LockRange x
   unfolding unless first
   out-of-range cs r e h = rw (e, le-leb 8 (l .0) h)
 
@@ -101,17 +101,17 @@ module _ (x : Cluster) (l : LockId) where
   unfolding first
   entered cs s r e h = rw (e, lt-leb 8 (l .0) h) (unless-within (first cs) x l s r)
 
-  pub acquire-within : (k : MachineId) (t : TaskId) (m : ℕ) → wellFormed x ≡ true → l .0 < 8
+  acquire-within : (k : MachineId) (t : TaskId) (m : ℕ) → wellFormed x ≡ true → l .0 < 8
       → acquire x l k t m ≡ settled (acquireWithin (lockIn x l) k t m .answer) x l (acquireWithin (lockIn x l) k t m .state)
   unfolding acquire acquireWithin
   acquire-within k t m e h = entered _ (lockIn x l) _ e h
 
-  pub release-within : (k : MachineId) (t : TaskId) → wellFormed x ≡ true → l .0 < 8
+  release-within : (k : MachineId) (t : TaskId) → wellFormed x ≡ true → l .0 < 8
       → release x l k t ≡ settled (releaseWithin (lockIn x l) k t .answer) x l (releaseWithin (lockIn x l) k t .state)
   unfolding release releaseWithin
   release-within k t e h = entered _ (lockIn x l) _ e h
 
-  pub deliver-within : (i : ℕ) → wellFormed x ≡ true → l .0 < 8
+  deliver-within : (i : ℕ) → wellFormed x ≡ true → l .0 < 8
       → deliver x l i ≡ settled (deliverWithin (lockIn x l) i .answer) x l (deliverWithin (lockIn x l) i .state)
   unfolding deliver deliverWithin
   deliver-within i e h = entered _ (lockIn x l) _ e h
@@ -122,12 +122,18 @@ callWithin (AcquireCall l k t m) s = acquireWithin s k t m
 callWithin (ReleaseCall l k t) s = releaseWithin s k t
 callWithin (DeliverCall l i) s = deliverWithin s i
 
-pub perform-within : (c : Call) (x : Cluster) → wellFormed x ≡ true → lockOf c .0 < 8
+perform-within : (c : Call) (x : Cluster) → wellFormed x ≡ true → lockOf c .0 < 8
     → perform c x ≡ settled (callWithin c (lockIn x (lockOf c)) .answer) x (lockOf c) (callWithin c (lockIn x (lockOf c)) .state)
 unfolding perform callWithin
 perform-within (AcquireCall l k t m) x e h = acquire-within x l k t m e h
 perform-within (ReleaseCall l k t) x e h = release-within x l k t e h
 perform-within (DeliverCall l i) x e h = deliver-within x l i e h
+
+pub perform-malformed : (c : Call) (x : Cluster) → wellFormed x ≡ false → perform c x ≡ refusing Malformed x
+unfolding perform acquire release deliver
+perform-malformed (AcquireCall l k t m) x e = malformed x l _ _ e
+perform-malformed (ReleaseCall l k t) x e = malformed x l _ _ e
+perform-malformed (DeliverCall l i) x e = malformed x l _ _ e
 
 pub perform-range : (c : Call) (x : Cluster) → wellFormed x ≡ true → 8 ≤ lockOf c .0 → perform c x ≡ refusing LockRange x
 unfolding perform acquire release deliver
@@ -151,13 +157,18 @@ within-refused (DeliverCall l i) s r e = unless-refused (first (deliverTests s i
 abbrev pub writtenBy : Call → Cluster → Cluster
 writtenBy c x = record { locks = set (x .locks) (lockOf c .0) (callWithin c (lockIn x (lockOf c)) .state) }
 
-pub perform-written : (c : Call) (x : Cluster) → wellFormed x ≡ true → lockOf c .0 < 8 → perform c x .cluster ≡ writtenBy c x
+pub perform-whole : (c : Call) (x : Cluster) → wellFormed x ≡ true → lockOf c .0 < 8
+    → perform c x ≡ record { answer = callWithin c (lockIn x (lockOf c)) .answer; cluster = writtenBy c x }
 unfolding settled
-perform-written c x e h = rw (perform-within c x e h) (go (callWithin c (lockIn x (lockOf c)) .answer) refl)
+perform-whole c x e h = rw (perform-within c x e h) (go (callWithin c (lockIn x (lockOf c)) .answer) refl)
   where
-    go : (a : Answer) → callWithin c (lockIn x (lockOf c)) .answer ≡ a → settled a x (lockOf c) (callWithin c (lockIn x (lockOf c)) .state) .cluster ≡ writtenBy c x
+    go : (a : Answer) → callWithin c (lockIn x (lockOf c)) .answer ≡ a
+        → settled a x (lockOf c) (callWithin c (lockIn x (lockOf c)) .state) ≡ record { answer = a; cluster = writtenBy c x }
     go Accepted q = refl
     go (Refused r) q = rw (within-refused c (lockIn x (lockOf c)) r q, set-getD (x .locks) (lockOf c .0) freshLock)
+
+pub perform-written : (c : Call) (x : Cluster) → wellFormed x ≡ true → lockOf c .0 < 8 → perform c x .cluster ≡ writtenBy c x
+perform-written c x e h = ap (λ (o : Outcome). o .cluster) (perform-whole c x e h)
 
 pub written-formed : (c : Call) (x : Cluster) → wellFormed x ≡ true → lockOf c .0 < 8 → wellFormed (writtenBy c x) ≡ true
 written-formed c x e h = rw (← perform-written c x e h) (perform-formed c x e)

@@ -1,8 +1,6 @@
 // The drain of one lock's state. Each phase makes its steps in a loop and only then hands over to the other: a call for each of 16,384
 // steps would not fit the stack.
 use crate::formed::well_formed;
-use crate::leaving::release_step;
-use crate::within::deliver_step;
 use crate::within::is_holding;
 use model::Answer;
 use model::ClientId;
@@ -12,6 +10,8 @@ use model::Drained;
 use model::LockId;
 use model::LockState;
 use model::Refusal;
+use rules::steps::deliver_step;
+use rules::steps::release_step;
 ghost use mathlib.Core.Path.{_≡_};
 ghost use mathlib.Core.Bool.{true};
 ghost use Prim.Native.Nat.{_+_, _<_, _≤_};

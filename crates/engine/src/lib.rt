@@ -1,13 +1,10 @@
 // The calls on a cluster. Each is, for every cluster and all arguments, the call of the model. A call tests the whole cluster once; runs of calls,
 // which know that a cluster stays well formed, take the steps on one lock in `within`.
 use crate::cluster::fresh_lock;
-use crate::cluster::lock_in;
 use crate::cluster::refuse_call;
-use crate::cluster::settle;
 use crate::formed::well_formed;
-use crate::within::acquire_within;
-use crate::within::deliver_within;
-use crate::within::release_within;
+use crate::within::call_within;
+use crate::within::lock_of;
 use model::Call;
 use model::Cluster;
 use model::LockId;
@@ -19,18 +16,9 @@ ghost use mathlib.Core.Path.{_≡_};
 ghost use Rattle.model.specs.States.{fresh};
 ghost use Rattle.model.specs.Calls.{acquire, release, deliver, perform};
 
-pub mod asking;
-pub mod blank;
-pub mod cluster;
-pub mod decider;
+mod cluster;
 pub mod draining;
 pub mod formed;
-pub mod holders;
-pub mod leaving;
-pub mod machine;
-pub mod queue;
-pub mod state;
-pub mod wire;
 pub mod within;
 
 pub use draining::drain;
@@ -45,70 +33,59 @@ pub fn fresh() -> Cluster
 pub fn acquire(x: Cluster, lock: LockId, machine: MachineId, task: TaskId, mode: u8) -> Outcome
     ensures { λ r. ⌜ r ≡ acquire x lock machine task mode ⌝ }
 {
-    if well_formed(x) {
-        if lock.0 < 8 {
-            let s = lock_in(x, lock);
-            let asked = acquire_within(s, machine, task, mode);
-            let a = asked.answer;
-            settle(a, x, lock, asked.state)
-        } else {
-            refuse_call(Refusal::LockRange, x)
-        }
-    } else {
-        refuse_call(Refusal::Malformed, x)
-    }
+    perform(
+        Call::Acquire {
+            lock,
+            machine,
+            task,
+            mode,
+        },
+        x,
+    )
 }
 
 pub fn release(x: Cluster, lock: LockId, machine: MachineId, task: TaskId) -> Outcome
     ensures { λ r. ⌜ r ≡ release x lock machine task ⌝ }
 {
-    if well_formed(x) {
-        if lock.0 < 8 {
-            let s = lock_in(x, lock);
-            let released = release_within(s, machine, task);
-            let a = released.answer;
-            settle(a, x, lock, released.state)
-        } else {
-            refuse_call(Refusal::LockRange, x)
-        }
-    } else {
-        refuse_call(Refusal::Malformed, x)
-    }
+    perform(
+        Call::Release {
+            lock,
+            machine,
+            task,
+        },
+        x,
+    )
 }
 
 // Delivers the packet at the index on the lock's wire.
 pub fn deliver(x: Cluster, lock: LockId, index: u8) -> Outcome
     ensures { λ r. ⌜ r ≡ deliver x lock index ⌝ }
 {
+    perform(Call::Deliver { lock, index }, x)
+}
+
+// A refused step leaves its lock's state, so what it gives is written back either way.
+pub fn perform(c: Call, x: Cluster) -> Outcome
+    ensures { λ r. ⌜ r ≡ perform c x ⌝ }
+{
     if well_formed(x) {
-        if lock.0 < 8 {
-            let s = lock_in(x, lock);
-            let delivered = deliver_within(s, index);
-            let a = delivered.answer;
-            settle(a, x, lock, delivered.state)
+        let l = lock_of(c);
+        if l.0 < 8 {
+            let mut y = x;
+            let i = l.0 as usize;
+            let s = y.locks[i];
+            let o = call_within(c, s);
+            let a = o.answer;
+            let t = o.state;
+            y.locks[i] = t;
+            Outcome {
+                answer: a,
+                cluster: y,
+            }
         } else {
             refuse_call(Refusal::LockRange, x)
         }
     } else {
         refuse_call(Refusal::Malformed, x)
-    }
-}
-
-pub fn perform(c: Call, x: Cluster) -> Outcome
-    ensures { λ r. ⌜ r ≡ perform c x ⌝ }
-{
-    match c {
-        Call::Acquire {
-            lock,
-            machine,
-            task,
-            mode,
-        } => acquire(x, lock, machine, task, mode),
-        Call::Release {
-            lock,
-            machine,
-            task,
-        } => release(x, lock, machine, task),
-        Call::Deliver { lock, index } => deliver(x, lock, index),
     }
 }

@@ -1,14 +1,4 @@
 // The calls on one lock's state that is known to be well formed: the tests that are left to a call, then its step.
-use crate::asking::acquire_step;
-use crate::decider::at_decider;
-use crate::leaving::release_step;
-use crate::machine::at_machine;
-use crate::state::refuse;
-use crate::state::status_at;
-use crate::wire::is_named;
-use crate::wire::packet_at;
-use crate::wire::take_off;
-use model::Address;
 use model::Answer;
 use model::Call;
 use model::ClientId;
@@ -16,23 +6,25 @@ use model::LockId;
 use model::LockState;
 use model::MachineId;
 use model::Mode;
-use model::Packet;
 use model::Refusal;
 use model::Status;
 use model::Stepped;
 use model::TaskId;
-use model::Wire;
+use rules::state::refuse;
+use rules::state::status_at;
+use rules::steps::acquire_step;
+use rules::steps::deliver_step;
+use rules::steps::release_step;
+use rules::wire::is_named;
 ghost use mathlib.Core.Path.{_≡_};
 ghost use mathlib.Core.Bool.{true, _||_};
 ghost use Prim.Native.Nat.{_<_};
 ghost use lib.Dec.{eqb};
-ghost use Rattle.model.specs.States.{clientOf, modeOf, agentOn, packets};
+ghost use Rattle.model.specs.States.{clientOf, modeOf};
 ghost use Rattle.model.specs.WellFormed.{lockFormed};
-ghost use Rattle.model.specs.Changes.{finish};
 ghost use Rattle.model.specs.Refusals.{first};
-ghost use Rattle.model.specs.Calls.{isIdle, isHolding, delivers, deliverStep};
-ghost use Rattle.laws.specs.Shapes.{CanonicalWire, CanonicalQueue};
-ghost use Rattle.laws.specs.Formed.{Ready};
+ghost use Rattle.model.specs.Calls.{isIdle, isHolding};
+ghost use Rattle.laws.specs.Shapes.{CanonicalWire};
 ghost use Rattle.laws.specs.Opened.{lockOf};
 ghost use Rattle.engine.specs.Within.{idleTests, acquireTests, holdingTests, releaseTests, acquireWithin, releaseWithin, deliverWithin, callWithin};
 
@@ -154,28 +146,6 @@ pub fn release_within(s: LockState, k: MachineId, t: TaskId) -> Stepped
         Answer::Accepted => release_step(s, client_of(k, t)),
         Answer::Refused(n) => refuse(n, s),
     }
-}
-
-// The packet p, off the wire, is delivered at its address.
-pub fn deliver_packet(to: Address, s: LockState, rest: Wire, p: Packet) -> Stepped
-    requires { ⌜ (CanonicalWire rest) × (((k : MachineId) → CanonicalQueue (agentOn s k .agent .queue)) × (CanonicalQueue (p .carried .agent .queue))) ⌝ }
-    ensures { λ r. ⌜ r ≡ finish (delivers to s p) (packets rest) s ⌝ }
-{
-    match to {
-        Address::Decider => at_decider(s, rest, p),
-        Address::Machine(k) => at_machine(s, rest, k, p),
-    }
-}
-
-pub fn deliver_step(s: LockState, i: u8) -> Stepped
-    requires { ⌜ (Ready s) × (i < s .wire .len) ⌝ }
-    ensures { λ r. ⌜ r ≡ deliverStep s i ⌝ }
-{
-    let w = s.wire;
-    let p = packet_at(w, i);
-    let rest = take_off(w, i);
-    let to = p.to;
-    deliver_packet(to, s, rest, p)
 }
 
 pub fn deliver_within(s: LockState, i: u8) -> Stepped

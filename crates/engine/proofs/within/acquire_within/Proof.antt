@@ -9,7 +9,7 @@ client-of-requires : tie.Need-client-of-requires
 client-of-requires c κs = in-range _ _ _ (sym (c .before .before .acquire-test .ensures) ∙ c .enum-told .given .1)
 
 acquire-step-requires : tie.Need-acquire-step-requires
-acquire-step-requires c κs = let r = ready (c .before .before .before .before .before .args .s) (c .before .before .before .before .before .pre) in (r .wire, r .agents _)
+acquire-step-requires c κs = ready (c .before .before .before .before .before .args .s) (c .before .before .before .before .before .pre)
 
 returns : tie.Need-returns
 unfolding acquireWithin stepUnless

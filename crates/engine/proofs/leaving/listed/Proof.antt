@@ -1,9 +1,0 @@
-use Rattle.engine.proofs.Base.{needs}
-use Rattle.engine.proofs.leaving.listed.Statement.{statement}
-use Rattle.engine.proofs.leaving.listed.Tie as tie
-
-returns : tie.Need-returns
-returns c = rw (c .before .if1 .taken, c .holds .ensures)
-
-pub listed-spec : {M : Type 1} → statement M
-listed-spec = tie.close (tie.spec (λ c κs. search needs) returns (λ c. search needs))

@@ -1,0 +1,38 @@
+-- The names that the proofs cite.
+pub use mathlib.Core.Path.{_≡_, refl, sym, ap, _∙_}
+pub use mathlib.Core.Bool.{Bool, true, false, false≢true, _&&_, not}
+pub use mathlib.Core.List.{List, [], _∷_, _++_, map}
+pub use mathlib.Core.Logic.{⊎-elim}
+pub use native.Mathlib.Numerals.{add-one}
+pub use Prim.Native.Nat.{_+_, _-_, _<_, _≤_}
+pub use native.Mathlib.Omega.{arith}
+pub use lib.ListN.{length, take, drop, getD, length-set, List·getD-eq-default, length-map}
+pub use lib.Seq.{set-out, append-snoc, length-take-le, take-all, sets, length-sets}
+pub use borrow.Author.Needs.{needs}
+pub use borrow.Author.Tests.{eq-eqb, ne-eqb, le-leb, lt-leb}
+pub use Rattle.rules.specs.Names.{Waiter, Packet, ClientState}
+pub use Rattle.model.specs.Lists.{any}
+unfoldable pub use Rattle.model.specs.Lists.{padded}
+pub use Rattle.model.specs.States.{machineOf, isShared, blankWaiter, agentOn, idle}
+unfoldable pub use Rattle.model.specs.States.{queueOf, waiters, noAgent, blankPacket, packets}
+pub use Rattle.model.specs.WellFormed.{isClient}
+unfoldable pub use Rattle.model.specs.Changes.{finish}
+pub use Rattle.model.specs.AtMachine.{grantOf}
+pub use Rattle.model.specs.Calls.{names}
+pub use Rattle.laws.specs.Lists.{getD-any}
+pub use Rattle.laws.specs.Shapes.{packets-of, waiters-of, length-packets, queue-whole, packet-is, waiter-is}
+pub use Rattle.rules.specs.Arrays.{cutUsed, cutUsed-step, cutUsed-last, slid, slid-down, slid-last}
+pub use Rattle.rules.specs.Writes.{queued-at, taken-off, popped, fronted}
+pub use Rattle.rules.specs.Scans.{any-hit, any-miss, any-none, opened, closed, used-hit, used-miss, used-none}
+unfoldable pub use Rattle.rules.specs.Effects.{sentBy, verdictOf}
+pub use Rattle.rules.specs.Effects.{sent-length, few-of-two, some-of-two, all-of-two, lays-none, lays-one, posted-both, finish-stuck, finish-fits, finish-full}
+pub use Rattle.rules.specs.Leaving.{hands-on, frees}
+pub use Rattle.rules.specs.Admits.{Room, admits, admits-none, admits-more, room-first, room-more, shared-fits, shared-joins, exclusive-fits, exclusive-stays, room-start, admits-start, room-left}
+pub use Rattle.rules.specs.Deciding.{marked-sent}
+pub use Rattle.model.specs.Asking.{lists}
+unfoldable pub use Rattle.model.specs.Asking.{asks, acquires, leaves, releases}
+unfoldable pub use Rattle.model.specs.AtDecider.{toOwner, decidesAcquire, decidesFree, decidesGrant, decides, atDecider}
+unfoldable pub use Rattle.model.specs.AtMachine.{ofMode, admitted, staying, joined, installs, granted, marked, unmarked, acquired, released, returned, arrives, atMachine}
+unfoldable pub use Rattle.model.specs.Calls.{delivers, acquireStep, releaseStep, deliverStep}
+pub use Rattle.laws.specs.Tests.{pick-yes, pick-no}
+pub use Rattle.laws.specs.Formed.{rest-canonical}

@@ -1,0 +1,10 @@
+use Rattle.rules.proofs.Base.{needs, padded, queueOf}
+use Rattle.rules.proofs.blank.empty_queue.Statement.{statement}
+use Rattle.rules.proofs.blank.empty_queue.Tie as tie
+
+returns : tie.Need-returns
+unfolding queueOf padded
+returns c = rw (c .blank-waiter .ensures)
+
+pub empty-queue-spec : {M : Type 1} → statement M
+empty-queue-spec = tie.close (tie.spec (λ c κs. search needs) returns)

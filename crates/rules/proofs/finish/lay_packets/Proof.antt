@@ -1,0 +1,32 @@
+use Rattle.rules.proofs.Base.{_≡_, _∙_, [], _∷_, ⊎-elim, arith, needs, add-one, take-all, some-of-two, all-of-two, lays-none, lays-one}
+use Rattle.rules.proofs.finish.lay_packets.Statement.{statement}
+use Rattle.rules.proofs.finish.lay_packets.Tie as tie
+
+array-set-from-b : tie.Need-array-set-from-b
+array-set-from-b c =
+    let s = c .before in
+    omega (arith, some-of-two (s .args .k) (omega arith) (s .args .p) (s .args .q), s .pre)
+
+array-set-from-b-2 : tie.Need-array-set-from-b-2
+array-set-from-b-2 c =
+    let s = c .before .before in
+    omega (arith, all-of-two (s .args .k) (omega arith) (s .args .p) (s .args .q), s .pre)
+
+returns : tie.Need-returns
+returns c =
+    let s = c .before .before .args in
+    ⊎-elim
+    (λ w. rw (w .1, take-all (s .k) (s .p ∷ s .q ∷ []) (omega arith), add-one))
+    (λ w. absurd (omega (arith, w .0 .left, c .if2 .taken)))
+    (c .before .if1 .came)
+
+returns-2 : tie.Need-returns-2
+returns-2 c =
+    let s = c .before .before .args in
+    ⊎-elim
+    (λ w. w .1 ∙ lays-one (s .a) (s .n) (s .k) (s .p) (s .q) (omega (arith, w .0 .taken, c .if2 .left)))
+    (λ w. w .1 ∙ lays-none (s .a) (s .n) (s .k) (s .p) (s .q) (omega (arith, w .0 .left)))
+    (c .before .if1 .came)
+
+pub lay-packets-spec : {M : Type 1} → statement M
+lay-packets-spec = tie.close (tie.spec (λ c. search needs) array-set-from-b (λ c. search needs) (λ c. search needs) array-set-from-b-2 returns returns-2)

@@ -1,0 +1,14 @@
+use Rattle.rules.proofs.Base.{needs, returned}
+use Rattle.rules.proofs.machine.free_arrives.Statement.{statement}
+use Rattle.rules.proofs.machine.free_arrives.Tie as tie
+
+returns : tie.Need-returns
+unfolding returned
+returns c = rw (c .cannot-place .ensures, c .before .if1 .taken)
+
+returns-2 : tie.Need-returns-2
+unfolding returned
+returns-2 c = rw (c .seating .ensures, c .before .no-packet .ensures, c .before .before .if1 .left)
+
+pub free-arrives-spec : {M : Type 1} → statement M
+free-arrives-spec = tie.close (tie.spec (λ c κs. search needs) (λ c κs. search needs) (λ c κs. search needs) returns returns-2)

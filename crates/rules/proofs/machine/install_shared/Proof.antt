@@ -1,0 +1,10 @@
+use Rattle.rules.proofs.Base.{needs, queueOf, waiters, waiters-of, ofMode, admitted, staying, installs}
+use Rattle.rules.proofs.machine.install_shared.Statement.{statement}
+use Rattle.rules.proofs.machine.install_shared.Tie as tie
+
+returns : tie.Need-returns
+unfolding installs admitted staying
+returns c = rw (c .seating-telling .ensures, c .before .seat .ensures, c .before .before .grants-to .ensures, c .before .before .before .before .before .admit-queue .ensures, c .before .before .before .before .before .before .set-holder .ensures, waiters-of)
+
+pub install-shared-spec : {M : Type 1} → statement M
+install-shared-spec = tie.close (tie.spec (λ c κs. search needs) (λ c κs. search needs) (λ c κs. search needs) (λ c κs. search needs) (λ c κs. search needs) returns)

@@ -1,0 +1,14 @@
+use Rattle.rules.proofs.Base.{sym, _∙_, needs, released, pick-yes, pick-no}
+use Rattle.rules.proofs.machine.release_arrives.Statement.{statement}
+use Rattle.rules.proofs.machine.release_arrives.Tie as tie
+
+returns : tie.Need-returns
+unfolding released
+returns c = rw (c .leave .ensures, c .before .status-at .ensures) (sym (pick-yes _ (sym (c .before .before .before .before .listed .ensures) ∙ c .before .before .before .if1 .taken)))
+
+returns-2 : tie.Need-returns-2
+unfolding released
+returns-2 c = rw (c .sending .ensures, c .before .bounce .ensures) (sym (pick-no _ (sym (c .before .before .before .listed .ensures) ∙ c .before .before .if1 .left)))
+
+pub release-arrives-spec : {M : Type 1} → statement M
+release-arrives-spec = tie.close (tie.spec (λ c κs. search needs) (λ c κs. search needs) (λ c κs. search needs) (λ c κs. search needs) (λ c κs. search needs) returns returns-2)

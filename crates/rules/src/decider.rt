@@ -1,0 +1,245 @@
+// Deliveries at the decider. Parameters of a rule: s the state as given, p the packet, o the owner in s.
+use crate::blank::new_agent;
+use crate::blank::plain_packet;
+use crate::blank::seat;
+use crate::effect::Effect;
+use crate::effect::cannot_place;
+use crate::effect::deciding;
+use crate::effect::no_packet;
+use crate::effect::one_packet;
+use crate::effect::sending;
+use crate::effect::two_packets;
+use crate::holders::is_shared;
+use crate::leaving::machine_of;
+use model::Address;
+use model::Agent;
+use model::ClientId;
+use model::Decider;
+use model::LockState;
+use model::MachineId;
+use model::Message;
+use model::Mode;
+use model::Owner;
+use model::Packet;
+ghost use mathlib.Core.Path.{_≡_};
+ghost use mathlib.Core.Bool.{Bool, true, false, _&&_};
+ghost use mathlib.Core.List.{List, [], _∷_};
+ghost use lib.Dec.{eqb};
+ghost use Rattle.model.specs.States.{machineOf, isShared};
+ghost use Rattle.model.specs.Changes.{does};
+ghost use Rattle.model.specs.AtDecider.{sentOn, toOwner, granting, grantsFirst, shares, decidesAcquire, decidesFree, decidesGrant, decides, atDecider};
+ghost use Rattle.rules.specs.Effects.{verdictOf};
+ghost use Rattle.rules.specs.Deciding.{rejectedTo, passing};
+
+pub fn both_shared(m: Mode, n: Mode) -> bool
+    ensures { λ r. ⌜ r ≡ isShared m && isShared n ⌝ }
+{
+    if is_shared(m) { is_shared(n) } else { false }
+}
+
+pub fn sent_on(p: Packet, k: MachineId) -> Packet
+    ensures { λ r. ⌜ r ≡ sentOn p k ⌝ }
+{
+    let m = p.message;
+    let x = p.carried;
+    Packet {
+        message: m,
+        to: Address::Machine(k),
+        rejected: p.rejected,
+        carried: x,
+    }
+}
+
+pub fn rejected_to(p: Packet, k: MachineId) -> Packet
+    ensures { λ r. ⌜ r ≡ rejectedTo p k ⌝ }
+{
+    let m = p.message;
+    let x = p.carried;
+    Packet {
+        message: m,
+        to: Address::Machine(k),
+        rejected: true,
+        carried: x,
+    }
+}
+
+// A GRANT with its agent, to its client's machine.
+pub fn grant_with(c: ClientId, m: Mode, a: Agent) -> Packet
+    ensures { λ r. ⌜ r ≡ granting c m a ⌝ }
+{
+    let k = machine_of(c);
+    let x = seat(a);
+    Packet {
+        message: Message::Grant { client: c, mode: m },
+        to: Address::Machine(k),
+        rejected: false,
+        carried: x,
+    }
+}
+
+pub fn to_owner(o: Owner, s: LockState, p: Packet) -> Effect
+    ensures { λ r. ⌜ verdictOf r ≡ toOwner o s p ⌝ }
+{
+    match o {
+        Owner::Free => cannot_place(),
+        Owner::Owned(_, k) => sending(s, sent_on(p, k)),
+    }
+}
+
+// The client's machine becomes the owner, and gets the agent a with the GRANT.
+pub fn pass_agent(s: LockState, c: ClientId, m: Mode, a: Agent) -> Effect
+    ensures { λ r. ⌜ verdictOf r ≡ does (passing s c m a) ⌝ }
+{
+    let k = machine_of(c);
+    let d = Decider {
+        owner: Owner::Owned(m, k),
+        incarnation: 0,
+    };
+    deciding(s, d, one_packet(grant_with(c, m, a)))
+}
+
+pub fn grants_first(s: LockState, c: ClientId, m: Mode) -> Effect
+    ensures { λ r. ⌜ verdictOf r ≡ does (grantsFirst s c m) ⌝ }
+{
+    pass_agent(s, c, m, new_agent(m))
+}
+
+// The GRANT goes out before the marked ACQUIRE.
+pub fn shares(s: LockState, c: ClientId, k: MachineId) -> Effect
+    ensures { λ r. ⌜ verdictOf r ≡ does (shares s c k) ⌝ }
+{
+    let old = s.decider;
+    let o = old.owner;
+    let n = std::num::wrapping_add_u8(old.incarnation, 1);
+    let d = Decider {
+        owner: o,
+        incarnation: n,
+    };
+    let g = plain_packet(
+        Message::Grant {
+            client: c,
+            mode: Mode::Shared,
+        },
+        Address::Machine(machine_of(c)),
+    );
+    let a = plain_packet(
+        Message::Acquire {
+            client: c,
+            mode: Mode::Shared,
+            granted: true,
+        },
+        Address::Machine(k),
+    );
+    deciding(s, d, two_packets(g, a))
+}
+
+pub fn decides_acquire(
+    o: Owner,
+    s: LockState,
+    p: Packet,
+    c: ClientId,
+    m: Mode,
+    granted: bool,
+) -> Effect
+    ensures { λ r. ⌜ verdictOf r ≡ decidesAcquire o s p c m granted ⌝ }
+{
+    if granted {
+        to_owner(o, s, p)
+    } else {
+        decides_unmarked(o, s, p, c, m)
+    }
+}
+
+pub fn decides_unmarked(o: Owner, s: LockState, p: Packet, c: ClientId, m: Mode) -> Effect
+    ensures { λ r. ⌜ verdictOf r ≡ decidesAcquire o s p c m false ⌝ }
+{
+    match o {
+        Owner::Free => grants_first(s, c, m),
+        Owner::Owned(n, k) => {
+            if both_shared(n, m) {
+                shares(s, c, k)
+            } else {
+                sending(s, sent_on(p, k))
+            }
+        }
+    }
+}
+
+// The incarnation inside the packet is the decider's.
+pub fn is_current(d: Decider, p: Packet) -> bool
+    ensures { λ r. ⌜ r ≡ eqb (p .carried .agent .incarnation) (d .incarnation) ⌝ }
+{
+    p.carried.agent.incarnation == d.incarnation
+}
+
+pub fn decides_free(o: Owner, s: LockState, p: Packet) -> Effect
+    ensures { λ r. ⌜ verdictOf r ≡ decidesFree o s p ⌝ }
+{
+    match o {
+        Owner::Free => cannot_place(),
+        Owner::Owned(_, k) => {
+            if is_current(s.decider, p) {
+                let d = Decider {
+                    owner: Owner::Free,
+                    incarnation: 0,
+                };
+                deciding(s, d, no_packet())
+            } else {
+                sending(s, rejected_to(p, k))
+            }
+        }
+    }
+}
+
+// A GRANT with its agent.
+pub fn decides_agent(o: Owner, s: LockState, p: Packet, c: ClientId, m: Mode) -> Effect
+    ensures { λ r. ⌜ verdictOf r ≡ decidesGrant true o s p c m ⌝ }
+{
+    match o {
+        Owner::Free => cannot_place(),
+        Owner::Owned(_, k) => {
+            if is_current(s.decider, p) {
+                let x = p.carried;
+                let mut a = x.agent;
+                a.incarnation = 0;
+                pass_agent(s, c, m, a)
+            } else {
+                sending(s, rejected_to(p, k))
+            }
+        }
+    }
+}
+
+pub fn decides_grant(o: Owner, s: LockState, p: Packet, c: ClientId, m: Mode) -> Effect
+    ensures { λ r. ⌜ verdictOf r ≡ decidesGrant (p .carried .present) o s p c m ⌝ }
+{
+    if p.carried.present {
+        decides_agent(o, s, p, c, m)
+    } else {
+        sending(s, sent_on(p, machine_of(c)))
+    }
+}
+
+pub fn decides(m: Message, o: Owner, s: LockState, p: Packet) -> Effect
+    ensures { λ r. ⌜ verdictOf r ≡ decides m o s p ⌝ }
+{
+    match m {
+        Message::Free => decides_free(o, s, p),
+        Message::Acquire {
+            client,
+            mode,
+            granted,
+        } => decides_acquire(o, s, p, client, mode, granted),
+        Message::Grant { client, mode } => decides_grant(o, s, p, client, mode),
+        Message::Release { client: _ } => to_owner(o, s, p),
+    }
+}
+
+pub fn at_decider(s: LockState, p: Packet) -> Effect
+    ensures { λ r. ⌜ verdictOf r ≡ atDecider s p ⌝ }
+{
+    let m = p.message;
+    let d = s.decider;
+    let o = d.owner;
+    decides(m, o, s, p)
+}

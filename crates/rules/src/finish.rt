@@ -1,0 +1,144 @@
+// An effect carried out. Rules only say what a step does; the state is written here and nowhere else, so that it is copied for a step and not for each
+// rule on the way.
+use crate::blank::plain_packet;
+use crate::effect::Effect;
+use crate::effect::Sends;
+use crate::state::put_agent;
+use crate::state::put_status;
+use crate::state::refuse;
+use model::Address;
+use model::Answer;
+use model::LockState;
+use model::Message;
+use model::Mode;
+use model::Packet;
+use model::Refusal;
+use model::Stepped;
+use model::Waiter;
+use model::Wire;
+ghost use mathlib.Core.Path.{_≡_};
+ghost use mathlib.Core.List.{[], _∷_, _++_, map};
+ghost use Prim.Native.Nat.{_+_, _≤_};
+ghost use lib.ListN.{length, take};
+ghost use lib.Seq.{sets};
+ghost use Rattle.model.specs.States.{wireOf, packets};
+ghost use Rattle.model.specs.Changes.{apply, finish};
+ghost use Rattle.model.specs.AtMachine.{grantOf};
+ghost use Rattle.laws.specs.Shapes.{CanonicalWire};
+ghost use Rattle.rules.specs.Effects.{sentBy, changeOf, verdictOf};
+
+// How many of two packets a count means.
+fn of_two(n: u8) -> u8
+    ensures { λ r. ⌜ (r ≤ 2) × ((p q : Packet) → length (take n (p ∷ q ∷ [])) ≡ r) ⌝ }
+{
+    if n < 2 { n } else { 2 }
+}
+
+// How many of the slots a length means.
+fn of_slots(a: [Waiter; 16], n: u8) -> u8
+    ensures { λ r. ⌜ (r ≤ 16) × (length (take n a) ≡ r) ⌝ }
+{
+    if n < 16 { n } else { 16 }
+}
+
+fn lay_packets(a: [Packet; 33], n: usize, k: u8, p: Packet, q: Packet) -> [Packet; 33]
+    requires { ⌜ n + length (take k (p ∷ q ∷ [])) ≤ 33 ⌝ }
+    ensures { λ r. ⌜ r ≡ sets a n (take k (p ∷ q ∷ [])) ⌝ }
+{
+    let mut b = a;
+    if 0 < k {
+        b[n] = p;
+    }
+    if 1 < k {
+        b[n + 1] = q;
+    }
+    b
+}
+
+fn lay_grants(a: [Packet; 33], n: usize, ws: [Waiter; 16], m: usize) -> [Packet; 33]
+    requires { ⌜ (m ≤ 16) × (n + m ≤ 33) ⌝ }
+    ensures { λ r. ⌜ r ≡ sets a n (map grantOf (take m ws)) ⌝ }
+{
+    let mut b = a;
+    let mut j: usize = 0;
+    while j < m {
+        let w = ws[j];
+        let c = w.client;
+        b[n + j] = plain_packet(
+            Message::Grant {
+                client: c,
+                mode: Mode::Shared,
+            },
+            Address::Decider,
+        );
+        j += 1;
+    }
+    b
+}
+
+fn sent_count(t: Sends) -> u8
+    ensures { λ r. ⌜ (r ≤ 18) × (length (sentBy t) ≡ r) ⌝ }
+{
+    let q = t.admitted;
+    let ws = q.slots;
+    of_two(t.count) + of_slots(ws, q.len)
+}
+
+// The packets go to the wire's end.
+fn post(w: Wire, t: Sends) -> Wire
+    requires { ⌜ (CanonicalWire w) × (w .len + length (sentBy t) ≤ 33) ⌝ }
+    ensures { λ r. ⌜ r ≡ wireOf (packets w ++ sentBy t) ⌝ }
+{
+    let a = w.slots;
+    let n = w.len;
+    let q = t.admitted;
+    let ws = q.slots;
+    let k = of_two(t.count);
+    let m = of_slots(ws, q.len);
+    let b = lay_packets(a, n as usize, t.count, t.first, t.second);
+    let g = lay_grants(b, (n + k) as usize, ws, m as usize);
+    Wire {
+        slots: g,
+        len: n + k + m,
+    }
+}
+
+fn apply(e: Effect, rest: Wire, s: LockState) -> LockState
+    requires { ⌜ (CanonicalWire rest) × (rest .len + length (sentBy (e .sends)) ≤ 33) ⌝ }
+    ensures { λ r. ⌜ r ≡ apply (changeOf e) (packets rest) s ⌝ }
+{
+    let d = e.decider;
+    let st = e.status;
+    let agents = s.agents;
+    let clients = s.clients;
+    let a = put_agent(agents, e.machine, e.slot);
+    let c = put_status(clients, e.client, st);
+    let w = post(rest, e.sends);
+    LockState {
+        decider: d,
+        agents: a,
+        clients: c,
+        wire: w,
+    }
+}
+
+// Refusals 9 and 10 leave the state as it was.
+pub fn finish(e: Effect, rest: Wire, s: LockState) -> Stepped
+    requires { ⌜ CanonicalWire rest ⌝ }
+    ensures { λ r. ⌜ r ≡ finish (verdictOf e) (packets rest) s ⌝ }
+{
+    if e.placed {
+        let n = sent_count(e.sends);
+        if rest.len + n <= 33 {
+            let t = apply(e, rest, s);
+            Stepped {
+                answer: Answer::Accepted,
+                state: t,
+            }
+        } else {
+            refuse(Refusal::WireFull, s)
+        }
+    } else {
+        refuse(Refusal::CannotPlace, s)
+    }
+}

@@ -1,0 +1,117 @@
+// A holder is removed, and an agent whose holders are gone leaves its machine.
+use crate::blank::no_agent;
+use crate::blank::plain_packet;
+use crate::blank::seat;
+use crate::effect::Effect;
+use crate::effect::no_packet;
+use crate::effect::one_packet;
+use crate::effect::seating_telling;
+use crate::effect::telling;
+use crate::holders::any_holder;
+use crate::holders::holds;
+use crate::holders::set_holder;
+use crate::queue::first;
+use crate::queue::pop;
+use crate::state::agent_at;
+use model::Address;
+use model::Agent;
+use model::AgentSlot;
+use model::ClientId;
+use model::LockState;
+use model::MachineId;
+use model::Message;
+use model::Packet;
+use model::Status;
+ghost use mathlib.Core.Path.{_≡_};
+ghost use mathlib.Core.Bool.{false};
+ghost use Rattle.model.specs.States.{waiters, agentOn, seated, machineOf};
+ghost use Rattle.model.specs.Changes.{does};
+ghost use Rattle.model.specs.Asking.{handOver, leaves, lists, releases};
+ghost use Rattle.laws.specs.Shapes.{CanonicalQueue};
+ghost use Rattle.rules.specs.Names.{ToDecider};
+ghost use Rattle.rules.specs.Effects.{verdictOf};
+
+// The agent inside a packet to the decider.
+pub fn carry(m: Message, a: Agent) -> Packet
+    ensures { λ r. ⌜ r ≡ record { message = m; to = ToDecider; rejected = false; carried = seated a } ⌝ }
+{
+    let x = seat(a);
+    Packet {
+        message: m,
+        to: Address::Decider,
+        rejected: false,
+        carried: x,
+    }
+}
+
+// The packet in which the agent goes, with the holders hs: a FREE, or a GRANT for the first waiter.
+pub fn hand_over(mut a: Agent, hs: [bool; 16]) -> Packet
+    requires { ⌜ CanonicalQueue (a .queue) ⌝ }
+    ensures { λ r. ⌜ r ≡ handOver a hs (waiters (a .queue)) ⌝ }
+{
+    let q = a.queue;
+    a.holders = hs;
+    if 0 < q.len {
+        let w = first(q);
+        a.queue = pop(q);
+        let c = w.client;
+        let m = w.mode;
+        carry(Message::Grant { client: c, mode: m }, a)
+    } else {
+        carry(Message::Free, a)
+    }
+}
+
+// The agent a of machine k removes the holder c and leaves if empty; the status of d becomes st.
+pub fn leave(
+    s: LockState,
+    k: MachineId,
+    mut a: Agent,
+    c: ClientId,
+    d: ClientId,
+    st: Status,
+) -> Effect
+    requires { ⌜ CanonicalQueue (a .queue) ⌝ }
+    ensures { λ r. ⌜ verdictOf r ≡ does (leaves s k a c d st) ⌝ }
+{
+    let h = a.holders;
+    let g = set_holder(h, c, false);
+    if any_holder(g) {
+        a.holders = g;
+        seating_telling(s, k, seat(a), d, st, no_packet())
+    } else {
+        let p = hand_over(a, g);
+        seating_telling(s, k, no_agent(), d, st, one_packet(p))
+    }
+}
+
+// An agent is there and lists the client as a holder.
+pub fn listed(x: AgentSlot, c: ClientId) -> bool
+    ensures { λ r. ⌜ r ≡ lists x c ⌝ }
+{
+    let a = x.agent;
+    let h = a.holders;
+    if x.present { holds(h, c) } else { false }
+}
+
+pub fn machine_of(c: ClientId) -> MachineId
+    ensures { λ r. ⌜ r ≡ machineOf c ⌝ }
+{
+    MachineId(c.0 / 4)
+}
+
+// A client that holds releases.
+pub fn release(s: LockState, c: ClientId) -> Effect
+    requires { ⌜ CanonicalQueue (agentOn s (machineOf c) .agent .queue) ⌝ }
+    ensures { λ r. ⌜ verdictOf r ≡ releases s c ⌝ }
+{
+    let k = machine_of(c);
+    let agents = s.agents;
+    let x = agent_at(agents, k);
+    if listed(x, c) {
+        leave(s, k, x.agent, c, c, Status::Idle)
+    } else {
+        let p = plain_packet(Message::Release { client: c }, Address::Decider);
+        telling(s, c, Status::Idle, one_packet(p))
+    }
+}

@@ -1,0 +1,326 @@
+// Deliveries at a machine. s is the state as given, k the machine.
+use crate::blank::empty_queue;
+use crate::blank::plain_packet;
+use crate::blank::seat;
+use crate::effect::Effect;
+use crate::effect::cannot_place;
+use crate::effect::grants_to;
+use crate::effect::no_packet;
+use crate::effect::one_packet;
+use crate::effect::seating;
+use crate::effect::seating_telling;
+use crate::effect::sending;
+use crate::effect::telling;
+use crate::holders::is_shared;
+use crate::holders::join;
+use crate::holders::may_join;
+use crate::holders::set_holder;
+use crate::leaving::leave;
+use crate::leaving::listed;
+use crate::queue::no_room;
+use crate::queue::push;
+use crate::queue::push_front;
+use crate::state::agent_at;
+use crate::state::status_at;
+use model::Address;
+use model::Agent;
+use model::AgentSlot;
+use model::ClientId;
+use model::LockState;
+use model::MachineId;
+use model::Message;
+use model::Mode;
+use model::Packet;
+use model::Queue;
+use model::Status;
+use model::Waiter;
+ghost use mathlib.Core.Path.{_≡_};
+ghost use mathlib.Core.Bool.{true, false};
+ghost use mathlib.Core.List.{[], _∷_};
+ghost use Prim.Native.Nat.{_≤_};
+ghost use lib.ListN.{take};
+ghost use Rattle.model.specs.States.{queueOf, waiters, agentOn, seated};
+ghost use Rattle.model.specs.Changes.{does, seating};
+ghost use Rattle.model.specs.Asking.{queuing, withRoom};
+ghost use Rattle.model.specs.AtMachine.{bounced, ofMode, joined, installs, requeued, granted, marked, unmarked, acquired, released, returned, arrives, atMachine};
+ghost use Rattle.laws.specs.Shapes.{CanonicalQueue};
+ghost use Rattle.rules.specs.Names.{Exclusive, Shared};
+ghost use Rattle.rules.specs.Effects.{verdictOf};
+ghost use Rattle.rules.specs.Admits.{admits, Room};
+
+// A queue's waiters, one after the other: the holders with those who joined, who stays in the queue, and who left it.
+pub struct Round {
+    pub holders: [bool; 16],
+    pub kept: Queue,
+    pub admitted: Queue,
+}
+
+// A shared waiter joins the holders; another stays.
+pub fn admit(mut t: Round, w: Waiter) -> Round
+    requires { ⌜ Room t (w ∷ []) ⌝ }
+    ensures { λ r. ⌜ r ≡ admits t (w ∷ []) ⌝ }
+{
+    let m = w.mode;
+    if is_shared(m) {
+        let c = w.client;
+        let h = t.holders;
+        let g = set_holder(h, c, true);
+        let q = push(t.admitted, w);
+        t.holders = g;
+        t.admitted = q;
+        t
+    } else {
+        let q = push(t.kept, w);
+        t.kept = q;
+        t
+    }
+}
+
+pub fn admit_all(s: Round, a: [Waiter; 16], n: usize) -> Round
+    requires { ⌜ (n ≤ 16) × (Room s (take n a)) ⌝ }
+    ensures { λ r. ⌜ r ≡ admits s (take n a) ⌝ }
+{
+    let mut t = s;
+    let mut j: usize = 0;
+    while j < n {
+        let w = a[j];
+        t = admit(t, w);
+        j += 1;
+    }
+    t
+}
+
+// The round of a queue, from the holders g on.
+pub fn admit_queue(g: [bool; 16], q: Queue) -> Round
+    requires { ⌜ CanonicalQueue q ⌝ }
+    ensures { λ r. ⌜ r ≡ record { holders = joined g (ofMode true (waiters q)); kept = queueOf (ofMode false (waiters q)); admitted = queueOf (ofMode true (waiters q)) } ⌝ }
+{
+    let e = empty_queue();
+    let slots = q.slots;
+    let t = Round {
+        holders: g,
+        kept: e,
+        admitted: e,
+    };
+    admit_all(t, slots, q.len as usize)
+}
+
+pub fn install_shared(s: LockState, k: MachineId, c: ClientId, a: Agent) -> Effect
+    requires { ⌜ CanonicalQueue (a .queue) ⌝ }
+    ensures { λ r. ⌜ verdictOf r ≡ does (installs s k c Shared a) ⌝ }
+{
+    let h = a.holders;
+    let r = admit_queue(set_holder(h, c, true), a.queue);
+    let hs = r.holders;
+    let kept = r.kept;
+    let b = Agent {
+        mode: Mode::Shared,
+        holders: hs,
+        queue: kept,
+        incarnation: a.incarnation,
+    };
+    let t = grants_to(r.admitted);
+    seating_telling(s, k, seat(b), c, Status::Holding(Mode::Shared), t)
+}
+
+pub fn install_exclusive(s: LockState, k: MachineId, c: ClientId, a: Agent) -> Effect
+    requires { ⌜ CanonicalQueue (a .queue) ⌝ }
+    ensures { λ r. ⌜ verdictOf r ≡ does (installs s k c Exclusive a) ⌝ }
+{
+    let h = a.holders;
+    let g = set_holder(h, c, true);
+    let q = a.queue;
+    let b = Agent {
+        mode: Mode::Exclusive,
+        holders: g,
+        queue: q,
+        incarnation: a.incarnation,
+    };
+    let st = Status::Holding(Mode::Exclusive);
+    seating_telling(s, k, seat(b), c, st, no_packet())
+}
+
+pub fn install(s: LockState, k: MachineId, c: ClientId, m: Mode, a: Agent) -> Effect
+    requires { ⌜ CanonicalQueue (a .queue) ⌝ }
+    ensures { λ r. ⌜ verdictOf r ≡ does (installs s k c m a) ⌝ }
+{
+    match m {
+        Mode::Exclusive => install_exclusive(s, k, c, a),
+        Mode::Shared => install_shared(s, k, c, a),
+    }
+}
+
+// The client joins the end of the agent's queue.
+pub fn queue_last(s: LockState, k: MachineId, mut a: Agent, c: ClientId, m: Mode) -> Effect
+    requires { ⌜ CanonicalQueue (a .queue) ⌝ }
+    ensures { λ r. ⌜ verdictOf r ≡ withRoom a c (seating s k (seated (queuing a c m)) []) ⌝ }
+{
+    if no_room(a, c) {
+        cannot_place()
+    } else {
+        a.queue = push(a.queue, Waiter { client: c, mode: m });
+        seating(s, k, seat(a), no_packet())
+    }
+}
+
+// The client goes back to the front of the agent's queue.
+pub fn queue_first(s: LockState, k: MachineId, mut a: Agent, c: ClientId, m: Mode) -> Effect
+    requires { ⌜ CanonicalQueue (a .queue) ⌝ }
+    ensures { λ r. ⌜ verdictOf r ≡ withRoom a c (seating s k (seated (requeued a c m)) []) ⌝ }
+{
+    if no_room(a, c) {
+        cannot_place()
+    } else {
+        a.queue = push_front(a.queue, Waiter { client: c, mode: m });
+        seating(s, k, seat(a), no_packet())
+    }
+}
+
+// The packet as it goes back to the decider.
+pub fn bounce(p: Packet) -> Packet
+    ensures { λ r. ⌜ r ≡ bounced p ⌝ }
+{
+    let m = p.message;
+    let x = p.carried;
+    Packet {
+        message: m,
+        to: Address::Decider,
+        rejected: p.rejected,
+        carried: x,
+    }
+}
+
+// here: an agent is on the machine; x: the agent carried, or none.
+pub fn grant_arrives(
+    s: LockState,
+    k: MachineId,
+    here: bool,
+    x: AgentSlot,
+    rejected: bool,
+    c: ClientId,
+    m: Mode,
+) -> Effect
+    requires { ⌜ CanonicalQueue (x .agent .queue) ⌝ }
+    ensures { λ r. ⌜ verdictOf r ≡ granted s k here (x .present) rejected (x .agent) c m ⌝ }
+{
+    if x.present {
+        if here {
+            cannot_place()
+        } else if rejected {
+            queue_first(s, k, x.agent, c, m)
+        } else {
+            install(s, k, c, m, x.agent)
+        }
+    } else {
+        telling(s, c, Status::Holding(m), no_packet())
+    }
+}
+
+// An ACQUIRE that the decider granted: its mark is counted in the agent's incarnation.
+pub fn marked_arrives(s: LockState, k: MachineId, a: Agent, c: ClientId) -> Effect
+    ensures { λ r. ⌜ verdictOf r ≡ marked s k a c ⌝ }
+{
+    let m = a.mode;
+    if is_shared(m) {
+        let mut b = join(a, c);
+        b.incarnation = std::num::wrapping_add_u8(a.incarnation, 1);
+        seating(s, k, seat(b), no_packet())
+    } else {
+        cannot_place()
+    }
+}
+
+pub fn unmarked_arrives(s: LockState, k: MachineId, a: Agent, c: ClientId, m: Mode) -> Effect
+    requires { ⌜ CanonicalQueue (a .queue) ⌝ }
+    ensures { λ r. ⌜ verdictOf r ≡ unmarked s k a c m ⌝ }
+{
+    if may_join(a, m) {
+        let x = seat(join(a, c));
+        let p = plain_packet(Message::Grant { client: c, mode: m }, Address::Decider);
+        seating(s, k, x, one_packet(p))
+    } else {
+        queue_last(s, k, a, c, m)
+    }
+}
+
+// x: the agent on the machine, or none.
+pub fn acquire_arrives(
+    s: LockState,
+    k: MachineId,
+    x: AgentSlot,
+    p: Packet,
+    c: ClientId,
+    m: Mode,
+    granted: bool,
+) -> Effect
+    requires { ⌜ CanonicalQueue (x .agent .queue) ⌝ }
+    ensures { λ r. ⌜ verdictOf r ≡ acquired s k (x .present) (x .agent) p c m granted ⌝ }
+{
+    if x.present {
+        if granted {
+            marked_arrives(s, k, x.agent, c)
+        } else {
+            unmarked_arrives(s, k, x.agent, c, m)
+        }
+    } else {
+        sending(s, bounce(p))
+    }
+}
+
+pub fn release_arrives(s: LockState, k: MachineId, x: AgentSlot, p: Packet, c: ClientId) -> Effect
+    requires { ⌜ CanonicalQueue (x .agent .queue) ⌝ }
+    ensures { λ r. ⌜ verdictOf r ≡ released s k x p c ⌝ }
+{
+    if listed(x, c) {
+        let clients = s.clients;
+        let d = ClientId(0);
+        leave(s, k, x.agent, c, d, status_at(clients, d))
+    } else {
+        sending(s, bounce(p))
+    }
+}
+
+// A rejected FREE: the carried agent x is installed as carried.
+pub fn free_arrives(s: LockState, k: MachineId, here: bool, x: AgentSlot) -> Effect
+    ensures { λ r. ⌜ verdictOf r ≡ returned s k here x ⌝ }
+{
+    if here {
+        cannot_place()
+    } else {
+        seating(s, k, x, no_packet())
+    }
+}
+
+pub fn arrive(m: Message, s: LockState, k: MachineId, x: AgentSlot, p: Packet) -> Effect
+    requires { ⌜ (CanonicalQueue (x .agent .queue)) × (CanonicalQueue (p .carried .agent .queue)) ⌝ }
+    ensures { λ r. ⌜ verdictOf r ≡ arrives m s k x p ⌝ }
+{
+    match m {
+        Message::Free => free_arrives(s, k, x.present, p.carried),
+        Message::Acquire {
+            client,
+            mode,
+            granted,
+        } => acquire_arrives(s, k, x, p, client, mode, granted),
+        Message::Grant { client, mode } => grant_arrives(
+            s,
+            k,
+            x.present,
+            p.carried,
+            p.rejected,
+            client,
+            mode,
+        ),
+        Message::Release { client } => release_arrives(s, k, x, p, client),
+    }
+}
+
+pub fn at_machine(s: LockState, k: MachineId, p: Packet) -> Effect
+    requires { ⌜ (CanonicalQueue (agentOn s k .agent .queue)) × (CanonicalQueue (p .carried .agent .queue)) ⌝ }
+    ensures { λ r. ⌜ verdictOf r ≡ atMachine s k p ⌝ }
+{
+    let agents = s.agents;
+    let x = agent_at(agents, k);
+    let m = p.message;
+    arrive(m, s, k, x, p)
+}
