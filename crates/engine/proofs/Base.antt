@@ -25,3 +25,4 @@ pub use Rattle.engine.specs.Names.{LockState}
 pub use Rattle.model.specs.States.{lockIn}
 pub use Rattle.laws.specs.Formed.{eight, lock-formed}
 pub use Rattle.engine.specs.Sweep.{sweep, drain-ends, drain-stops, drain-malformed, drain-range}
+pub use Rattle.rules.specs.Plans.{plan-accepts, plan-refuses}

@@ -1,5 +1,5 @@
 -- The names that the proofs of the decider's and the clients' rules and of the public calls cite.
-pub use mathlib.Core.Path.{_≡_, sym, _∙_}
+pub use mathlib.Core.Path.{_≡_, sym, ap, _∙_}
 pub use mathlib.Core.Bool.{true, false, _||_, not}
 pub use Prim.Native.Nat.{_<_, _≤_}
 pub use native.Mathlib.Omega.{arith}
@@ -9,7 +9,7 @@ pub use borrow.Author.Needs.{needs}
 pub use borrow.Author.Tests.{le-leb, lt-leb, eq-eqb, ne-eqb}
 unfoldable pub use Rattle.model.specs.Lists.{padded}
 unfoldable pub use Rattle.model.specs.States.{wireOf, freshLock, fresh}
-pub use Rattle.model.specs.States.{statusOf, packets}
+pub use Rattle.model.specs.States.{statusOf, packets, lockIn}
 unfoldable pub use Rattle.model.specs.Refusals.{first}
 pub use Rattle.model.specs.Calls.{isIdle, isHolding}
 pub use Rattle.laws.specs.Shapes.{length-packets}
@@ -19,4 +19,6 @@ unfoldable pub use Rattle.engine.specs.Within.{stepUnless, acquireWithin
 unfoldable pub use Rattle.model.specs.Calls.{perform}
 pub use Rattle.laws.specs.Lists.{getD-any}
 pub use Rattle.laws.specs.Formed.{eight, lock-formed}
-pub use Rattle.engine.specs.Within.{perform-whole, perform-malformed, perform-range}
+pub use Rattle.engine.specs.Within.{perform-accepts, perform-refuses, perform-malformed, perform-range}
+pub use Rattle.rules.specs.Plans.{carriedOut, plan-accepts, plan-refuses}
+pub use Rattle.engine.specs.Names.{LockState}

@@ -20,6 +20,8 @@ use Rattle.laws.specs.Tests.{and-left, and-right}
 use Rattle.laws.specs.Lists.{all-at}
 use Rattle.laws.specs.Opened.{lockOf, stepOf, step-refused}
 use Rattle.laws.specs.Clusters.{perform-formed}
+use Rattle.rules.specs.declared.plan.Plan.{Plan}
+use Rattle.rules.specs.Plans.{carriedOut, Plans, plan-accepts, plan-refuses}
 
 -- ---- the tests that are left, in document 01's order, and then the step
 abbrev pub idleTests : LockState → ClientId → List Cause
@@ -166,6 +168,15 @@ perform-whole c x e h = rw (perform-within c x e h) (go (callWithin c (lockIn x 
         → settled a x (lockOf c) (callWithin c (lockIn x (lockOf c)) .state) ≡ record { answer = a; cluster = writtenBy c x }
     go Accepted q = refl
     go (Refused r) q = rw (within-refused c (lockIn x (lockOf c)) r q, set-getD (x .locks) (lockOf c .0) freshLock)
+
+-- the call by its plan: written where it accepts, the cluster left where it refuses
+module _ (c : Call) (x : Cluster) (p : Plan) (e : wellFormed x ≡ true) (h : lockOf c .0 < 8) (g : Plans p (lockIn x (lockOf c)) (callWithin c (lockIn x (lockOf c)))) where
+  pub perform-accepts : p .answer ≡ Accepted
+      → record { answer = p .answer; cluster = record { locks = set (x .locks) (lockOf c .0) (carriedOut p (lockIn x (lockOf c))) } } ≡ perform c x
+  perform-accepts q = rw (q, perform-whole c x e h, ← plan-accepts g q)
+
+  pub perform-refuses : (n : Refusal) → p .answer ≡ Refused n → record { answer = p .answer; cluster = x } ≡ perform c x
+  perform-refuses n q = rw (q, perform-whole c x e h, ← plan-refuses g n q, set-getD (x .locks) (lockOf c .0) freshLock)
 
 pub perform-written : (c : Call) (x : Cluster) → wellFormed x ≡ true → lockOf c .0 < 8 → perform c x .cluster ≡ writtenBy c x
 perform-written c x e h = ap (λ (o : Outcome). o .cluster) (perform-whole c x e h)

@@ -10,8 +10,9 @@ use model::Drained;
 use model::LockId;
 use model::LockState;
 use model::Refusal;
-use rules::steps::deliver_step;
-use rules::steps::release_step;
+use rules::plan::carry_out;
+use rules::steps::plan_deliver;
+use rules::steps::plan_release;
 ghost use mathlib.Core.Path.{_≡_};
 ghost use mathlib.Core.Bool.{true};
 ghost use Prim.Native.Nat.{_+_, _<_, _≤_};
@@ -76,15 +77,15 @@ fn deliver_all(left: u16, n: u16, s: LockState) -> Leg
         if k == 0 {
             return leg_of(false, Answer::Refused(Refusal::NotQuiescent), k, m, t);
         }
-        let o = deliver_step(t, 0);
-        let a = o.answer;
+        let p = plan_deliver(t, 0);
+        let a = p.answer;
         match a {
             Answer::Accepted => {}
             Answer::Refused(r) => {
                 return leg_of(false, Answer::Refused(r), k, m, t);
             }
         }
-        t = o.state;
+        t = carry_out(p, t);
         k -= 1;
         m += 1;
     }
@@ -108,15 +109,15 @@ fn release_all(left: u16, n: u16, s: LockState) -> Leg
         if k == 0 {
             return leg_of(false, Answer::Refused(Refusal::NotQuiescent), k, m, t);
         }
-        let o = release_step(t, ClientId(c));
-        let a = o.answer;
+        let p = plan_release(t, ClientId(c));
+        let a = p.answer;
         match a {
             Answer::Accepted => {}
             Answer::Refused(r) => {
                 return leg_of(false, Answer::Refused(r), k, m, t);
             }
         }
-        t = o.state;
+        t = carry_out(p, t);
         k -= 1;
         m += 1;
     }

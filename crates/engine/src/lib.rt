@@ -3,8 +3,9 @@
 use crate::cluster::fresh_lock;
 use crate::cluster::refuse_call;
 use crate::formed::well_formed;
-use crate::within::call_within;
 use crate::within::lock_of;
+use crate::within::plan_call;
+use model::Answer;
 use model::Call;
 use model::Cluster;
 use model::LockId;
@@ -12,6 +13,7 @@ use model::MachineId;
 use model::Outcome;
 use model::Refusal;
 use model::TaskId;
+use rules::plan::carry_out;
 ghost use mathlib.Core.Path.{_≡_};
 ghost use Rattle.model.specs.States.{fresh};
 ghost use Rattle.model.specs.Calls.{acquire, release, deliver, perform};
@@ -64,7 +66,6 @@ pub fn deliver(x: Cluster, lock: LockId, index: u8) -> Outcome
     perform(Call::Deliver { lock, index }, x)
 }
 
-// A refused step leaves its lock's state, so what it gives is written back either way.
 pub fn perform(c: Call, x: Cluster) -> Outcome
     ensures { λ r. ⌜ r ≡ perform c x ⌝ }
 {
@@ -74,10 +75,14 @@ pub fn perform(c: Call, x: Cluster) -> Outcome
             let mut y = x;
             let i = l.0 as usize;
             let s = y.locks[i];
-            let o = call_within(c, s);
-            let a = o.answer;
-            let t = o.state;
-            y.locks[i] = t;
+            let p = plan_call(c, s);
+            let a = p.answer;
+            match a {
+                Answer::Accepted => {
+                    y.locks[i] = carry_out(p, s);
+                }
+                Answer::Refused(_) => {}
+            }
             Outcome {
                 answer: a,
                 cluster: y,

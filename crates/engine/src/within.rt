@@ -1,4 +1,5 @@
-// The calls on one lock's state that is known to be well formed: the tests that are left to a call, then its step.
+// The calls on one lock's state that is known to be well formed: the tests that are left to a call, then its step. A call is planned first, and the
+// state is written only where the plan accepts.
 use model::Answer;
 use model::Call;
 use model::ClientId;
@@ -10,11 +11,13 @@ use model::Refusal;
 use model::Status;
 use model::Stepped;
 use model::TaskId;
-use rules::state::refuse;
+use rules::plan::Plan;
+use rules::plan::carry_out;
+use rules::plan::refuse;
 use rules::state::status_at;
-use rules::steps::acquire_step;
-use rules::steps::deliver_step;
-use rules::steps::release_step;
+use rules::steps::plan_acquire;
+use rules::steps::plan_deliver;
+use rules::steps::plan_release;
 use rules::wire::is_named;
 ghost use mathlib.Core.Path.{_≡_};
 ghost use mathlib.Core.Bool.{true, _||_};
@@ -26,6 +29,7 @@ ghost use Rattle.model.specs.Refusals.{first};
 ghost use Rattle.model.specs.Calls.{isIdle, isHolding};
 ghost use Rattle.laws.specs.Shapes.{CanonicalWire};
 ghost use Rattle.laws.specs.Opened.{lockOf};
+ghost use Rattle.rules.specs.Plans.{Plans};
 ghost use Rattle.engine.specs.Within.{idleTests, acquireTests, holdingTests, releaseTests, acquireWithin, releaseWithin, deliverWithin, callWithin};
 
 pub fn client_of(k: MachineId, t: TaskId) -> ClientId
@@ -126,36 +130,36 @@ pub fn release_test(s: LockState, k: MachineId, t: TaskId) -> Answer
     }
 }
 
-pub fn acquire_within(s: LockState, k: MachineId, t: TaskId, m: u8) -> Stepped
+pub fn acquire_within(s: LockState, k: MachineId, t: TaskId, m: u8) -> Plan
     requires { ⌜ lockFormed s ≡ true ⌝ }
-    ensures { λ r. ⌜ r ≡ acquireWithin s k t m ⌝ }
+    ensures { λ r. ⌜ Plans r s (acquireWithin s k t m) ⌝ }
 {
     let a = acquire_test(s, k, t, m);
     match a {
-        Answer::Accepted => acquire_step(s, client_of(k, t), mode_of(m)),
-        Answer::Refused(n) => refuse(n, s),
+        Answer::Accepted => plan_acquire(s, client_of(k, t), mode_of(m)),
+        Answer::Refused(n) => refuse(n),
     }
 }
 
-pub fn release_within(s: LockState, k: MachineId, t: TaskId) -> Stepped
+pub fn release_within(s: LockState, k: MachineId, t: TaskId) -> Plan
     requires { ⌜ lockFormed s ≡ true ⌝ }
-    ensures { λ r. ⌜ r ≡ releaseWithin s k t ⌝ }
+    ensures { λ r. ⌜ Plans r s (releaseWithin s k t) ⌝ }
 {
     let a = release_test(s, k, t);
     match a {
-        Answer::Accepted => release_step(s, client_of(k, t)),
-        Answer::Refused(n) => refuse(n, s),
+        Answer::Accepted => plan_release(s, client_of(k, t)),
+        Answer::Refused(n) => refuse(n),
     }
 }
 
-pub fn deliver_within(s: LockState, i: u8) -> Stepped
+pub fn deliver_within(s: LockState, i: u8) -> Plan
     requires { ⌜ lockFormed s ≡ true ⌝ }
-    ensures { λ r. ⌜ r ≡ deliverWithin s i ⌝ }
+    ensures { λ r. ⌜ Plans r s (deliverWithin s i) ⌝ }
 {
     if i < s.wire.len {
-        deliver_step(s, i)
+        plan_deliver(s, i)
     } else {
-        refuse(Refusal::IndexRange, s)
+        refuse(Refusal::IndexRange)
     }
 }
 
@@ -178,10 +182,10 @@ pub fn lock_of(c: Call) -> LockId
     }
 }
 
-// The call on the state of its lock.
-pub fn call_within(c: Call, s: LockState) -> Stepped
+// The call on the state of its lock, planned.
+pub fn plan_call(c: Call, s: LockState) -> Plan
     requires { ⌜ lockFormed s ≡ true ⌝ }
-    ensures { λ r. ⌜ r ≡ callWithin c s ⌝ }
+    ensures { λ r. ⌜ Plans r s (callWithin c s) ⌝ }
 {
     match c {
         Call::Acquire {
@@ -196,5 +200,27 @@ pub fn call_within(c: Call, s: LockState) -> Stepped
             task,
         } => release_within(s, machine, task),
         Call::Deliver { lock: _, index } => deliver_within(s, index),
+    }
+}
+
+// The call on the state of its lock, made.
+pub fn call_within(c: Call, s: LockState) -> Stepped
+    requires { ⌜ lockFormed s ≡ true ⌝ }
+    ensures { λ r. ⌜ r ≡ callWithin c s ⌝ }
+{
+    let p = plan_call(c, s);
+    let a = p.answer;
+    match a {
+        Answer::Accepted => {
+            let t = carry_out(p, s);
+            Stepped {
+                answer: Answer::Accepted,
+                state: t,
+            }
+        }
+        Answer::Refused(n) => Stepped {
+            answer: Answer::Refused(n),
+            state: s,
+        },
     }
 }

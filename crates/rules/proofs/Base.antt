@@ -11,7 +11,7 @@ pub use lib.Seq.{set-out, append-snoc, length-take-le, take-all, sets, length-se
 pub use borrow.Author.Needs.{needs}
 pub use borrow.Author.Tests.{eq-eqb, ne-eqb, le-leb, lt-leb}
 pub use Rattle.rules.specs.Names.{Waiter, Packet, ClientState}
-pub use Rattle.model.specs.Lists.{any}
+pub use Rattle.model.specs.Lists.{any, removed}
 unfoldable pub use Rattle.model.specs.Lists.{padded}
 pub use Rattle.model.specs.States.{machineOf, isShared, blankWaiter, agentOn, idle}
 unfoldable pub use Rattle.model.specs.States.{queueOf, waiters, noAgent, blankPacket, packets}
@@ -19,13 +19,13 @@ pub use Rattle.model.specs.WellFormed.{isClient}
 unfoldable pub use Rattle.model.specs.Changes.{finish}
 pub use Rattle.model.specs.AtMachine.{grantOf}
 pub use Rattle.model.specs.Calls.{names}
-pub use Rattle.laws.specs.Lists.{getD-any}
+pub use Rattle.laws.specs.Lists.{getD-any, length-removed}
 pub use Rattle.laws.specs.Shapes.{packets-of, waiters-of, length-packets, queue-whole, packet-is, waiter-is}
-pub use Rattle.rules.specs.Arrays.{cutUsed, cutUsed-step, cutUsed-last, slid, slid-down, slid-last}
-pub use Rattle.rules.specs.Writes.{queued-at, taken-off, popped, fronted}
+pub use Rattle.rules.specs.Arrays.{cutUsed, cutUsed-step, cutUsed-last, cutAt, cutAt-in, cutAt-out, slid, slid-down, slid-last}
+pub use Rattle.rules.specs.Writes.{queued-at, removed-none, cut-off, popped, fronted}
 pub use Rattle.rules.specs.Scans.{any-hit, any-miss, any-none, opened, closed, used-hit, used-miss, used-none}
 unfoldable pub use Rattle.rules.specs.Effects.{sentBy, verdictOf}
-pub use Rattle.rules.specs.Effects.{sent-length, few-of-two, some-of-two, all-of-two, lays-none, lays-one, posted-both, finish-stuck, finish-fits, finish-full}
+pub use Rattle.rules.specs.Effects.{sent-length, few-of-two, some-of-two, all-of-two, lays-none, lays-one, posted-both}
 pub use Rattle.rules.specs.Leaving.{hands-on, frees}
 pub use Rattle.rules.specs.Admits.{Room, admits, admits-none, admits-more, room-first, room-more, shared-fits, shared-joins, exclusive-fits, exclusive-stays, room-start, admits-start, room-left}
 pub use Rattle.rules.specs.Deciding.{marked-sent}
@@ -35,4 +35,4 @@ unfoldable pub use Rattle.model.specs.AtDecider.{toOwner, decidesAcquire, decid
 unfoldable pub use Rattle.model.specs.AtMachine.{ofMode, admitted, staying, joined, installs, granted, marked, unmarked, acquired, released, returned, arrives, atMachine}
 unfoldable pub use Rattle.model.specs.Calls.{delivers, acquireStep, releaseStep, deliverStep}
 pub use Rattle.laws.specs.Tests.{pick-yes, pick-no}
-pub use Rattle.laws.specs.Formed.{rest-canonical}
+pub use Rattle.rules.specs.Plans.{Plans, finish-stuck, finish-full, plans-refusal, plans-effect, rest-fits}

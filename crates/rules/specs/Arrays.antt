@@ -6,7 +6,10 @@ use native.Mathlib.Numerals.{add-one}
 use native.Mathlib.Omega.{arith}
 use lib.ListN.{length, take, drop, set, getD, replicate, drop-of-length-le, length-set, length-append}
 use lib.Seq.{drop-cons, getD-take, length-take-le, take-suc-set, drop-set-lt, append-snoc, set-split, take-set-lt, take-append-seam, drop-append-seam, take-append-le, set-append-seam, take-suc, take-set-le, getD-set-same, drop-append-add}
-use Rattle.model.specs.Lists.{padded, removed}
+use lib.Dec.{leb}
+use borrow.Author.Tests.{le-leb, lt-leb}
+use Rattle.model.specs.Lists.{pick, padded, removed}
+use Rattle.laws.specs.Tests.{pick-yes, pick-no}
 use Rattle.laws.specs.Lists.{removed-split, length-removed, Canonical, more-room}
 
 module _ {A : Type 0} where
@@ -33,6 +36,18 @@ module _ {A : Type 0} where
       let q : length (take n xs) ≤ i + 1 = omega arith in
       let m : suc i ≡ n = omega arith in
       rw (set-split xs i z, drop-of-length-le (take n xs) q, m)
+
+  -- the same, where nothing is out of the first n at an index past them
+  unfoldable pub cutAt : List A → ℕ → ℕ → A → List A
+  cutAt xs i n z = pick (leb n i) xs (cutUsed xs i n z)
+
+  pub cutAt-in : (xs : List A) (i n : ℕ) (z : A) → i < n → cutAt xs i n z ≡ cutUsed xs i n z
+  unfolding cutAt
+  cutAt-in xs i n z h = pick-no xs (lt-leb n i h)
+
+  pub cutAt-out : (xs : List A) (i n : ℕ) (z : A) → n ≤ i → cutAt xs i n z ≡ xs
+  unfolding cutAt
+  cutAt-out xs i n z h = pick-yes (cutUsed xs i n z) (le-leb n i h)
 
   -- z is put in front of the first j, and the element at j is left out for it
   unfoldable pub slid : List A → ℕ → A → List A

@@ -1,21 +1,17 @@
 -- What the code's effect means, and what carrying it out does to the wire's slots.
 use mathlib.Core.Path.{_≡_, refl, sym, ap, subst, _∙_}
-use mathlib.Core.Bool.{Bool, true, false}
 use mathlib.Core.List.{List, [], _∷_, _++_, append-nil, map}
 use Prim.Native.Nat.{ℕ, zero, suc, _+_, _<_, _≤_}
 use native.Mathlib.Omega.{arith}
 use lib.ListN.{length, take, drop, set, take-append-drop, length-append, length-map}
-use lib.Dec.{leb}
-use borrow.Author.Tests.{le-leb, lt-leb}
 use lib.Seq.{append-snoc, length-take-le, take-all, take-append-seam, sets}
 use Rattle.rules.specs.declared.effect.Sends.{Sends}
 use Rattle.rules.specs.declared.effect.Effect.{Effect}
-use Rattle.rules.specs.Names.{Waiter, Packet, Wire, LockState, CannotPlace, WireFull}
+use Rattle.rules.specs.Names.{Waiter, Packet, Wire}
 use Rattle.model.specs.Lists.{pick}
 use Rattle.model.specs.States.{waiters, wireOf, packets}
-use Rattle.model.specs.Changes.{Change, Verdict, cannot-place, does, apply, accepted, refused, finish}
+use Rattle.model.specs.Changes.{Change, Verdict, cannot-place, does}
 use Rattle.model.specs.AtMachine.{grantOf}
-use Rattle.laws.specs.Tests.{pick-yes, pick-no}
 use Rattle.laws.specs.Shapes.{CanonicalWire, packets-of, canonical-wire, wire-whole, length-packets}
 use Rattle.rules.specs.Writes.{sent-at}
 
@@ -86,22 +82,3 @@ posted-both w ps ws n k m h r e f =
     let u : take m ws ≡ take n ws = rw (← f) (used-slots n ws) in
     let l : w .len + k + m ≡ w .len + length (ps ++ map grantOf (take n ws)) = simp (length-append, length-map) (omega (arith, e, f)) in
     rw (u, l, ← e, sets-append) (posted w (ps ++ map grantOf (take n ws)) h r)
-
--- ---- the step, by what the effect says
-module _ (e : Effect) (rest : Wire) (s : LockState) where
-  pub finish-stuck : e .placed ≡ false → refused CannotPlace s ≡ finish (verdictOf e) (packets rest) s
-  unfolding finish verdictOf
-  finish-stuck p = sym (ap (λ (v : Verdict). finish v (packets rest) s) (pick-no (does (changeOf e)) p))
-
-  module _ (p : e .placed ≡ true) (h : CanonicalWire rest) where
-    pub finish-fits : rest .len + length (sentBy (e .sends)) ≤ 33 → accepted (apply (changeOf e) (packets rest) s) ≡ finish (verdictOf e) (packets rest) s
-    unfolding finish verdictOf
-    finish-fits k =
-        let f : leb (length (packets rest) + length (sentBy (e .sends))) 33 ≡ true = le-leb (length (packets rest) + length (sentBy (e .sends))) 33 (omega (arith, length-packets rest h)) in
-        sym (ap (λ (v : Verdict). finish v (packets rest) s) (pick-yes cannot-place p) ∙ pick-yes (refused WireFull s) f)
-
-    pub finish-full : 33 < rest .len + length (sentBy (e .sends)) → refused WireFull s ≡ finish (verdictOf e) (packets rest) s
-    unfolding finish verdictOf
-    finish-full k =
-        let f : leb (length (packets rest) + length (sentBy (e .sends))) 33 ≡ false = lt-leb (length (packets rest) + length (sentBy (e .sends))) 33 (omega (arith, length-packets rest h)) in
-        sym (ap (λ (v : Verdict). finish v (packets rest) s) (pick-yes cannot-place p) ∙ pick-no (accepted (apply (changeOf e) (packets rest) s)) f)

@@ -4,6 +4,7 @@ pub mod Arrays
 pub mod Writes
 pub mod Scans
 pub mod Effects
+pub mod Plans
 pub mod Leaving
 pub mod Admits
 pub mod Deciding

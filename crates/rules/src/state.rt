@@ -1,18 +1,13 @@
-// A lock's state: its parts read and written, and the answers of a step.
+// The parts of a lock's state read and written.
 use crate::blank::no_agent;
 use model::AgentSlot;
-use model::Answer;
 use model::ClientId;
 use model::ClientState;
-use model::LockState;
 use model::MachineId;
-use model::Refusal;
 use model::Status;
-use model::Stepped;
 ghost use mathlib.Core.Path.{_≡_};
 ghost use lib.ListN.{set, getD};
 ghost use Rattle.model.specs.States.{noAgent, idle};
-ghost use Rattle.model.specs.Changes.{refused};
 
 pub fn agent_at(a: [AgentSlot; 4], k: MachineId) -> AgentSlot
     ensures { λ r. ⌜ r ≡ getD a (k .0) noAgent ⌝ }
@@ -53,13 +48,4 @@ pub fn put_status(a: [ClientState; 16], c: ClientId, st: Status) -> [ClientState
         b[i] = ClientState { status: st };
     }
     b
-}
-
-pub fn refuse(n: Refusal, s: LockState) -> Stepped
-    ensures { λ r. ⌜ r ≡ refused n s ⌝ }
-{
-    Stepped {
-        answer: Answer::Refused(n),
-        state: s,
-    }
 }

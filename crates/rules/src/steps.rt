@@ -1,18 +1,18 @@
-// The steps on one lock's state: a rule's effect, carried out.
+// The steps on one lock's state, planned: a rule's effect, judged.
 use crate::asking::acquire;
 use crate::decider::at_decider;
 use crate::effect::Effect;
-use crate::finish::finish;
 use crate::leaving::release;
 use crate::machine::at_machine;
-use crate::wire::take_packet;
+use crate::plan::Plan;
+use crate::plan::judge;
+use crate::wire::packet_at;
 use model::Address;
 use model::ClientId;
 use model::LockState;
 use model::MachineId;
 use model::Mode;
 use model::Packet;
-use model::Stepped;
 ghost use mathlib.Core.Path.{_≡_};
 ghost use Prim.Native.Nat.{_<_};
 ghost use Rattle.model.specs.States.{agentOn};
@@ -20,22 +20,23 @@ ghost use Rattle.model.specs.Calls.{delivers, acquireStep, releaseStep, deliver
 ghost use Rattle.laws.specs.Shapes.{CanonicalQueue};
 ghost use Rattle.laws.specs.Formed.{Ready};
 ghost use Rattle.rules.specs.Effects.{verdictOf};
+ghost use Rattle.rules.specs.Plans.{Plans};
 
-pub fn acquire_step(s: LockState, c: ClientId, m: Mode) -> Stepped
+pub fn plan_acquire(s: LockState, c: ClientId, m: Mode) -> Plan
     requires { ⌜ Ready s ⌝ }
-    ensures { λ r. ⌜ r ≡ acquireStep s c m ⌝ }
+    ensures { λ r. ⌜ Plans r s (acquireStep s c m) ⌝ }
 {
     let e = acquire(s, c, m);
-    finish(e, s.wire, s)
+    judge(e, 33, s.wire.len)
 }
 
 // A client that holds releases.
-pub fn release_step(s: LockState, c: ClientId) -> Stepped
+pub fn plan_release(s: LockState, c: ClientId) -> Plan
     requires { ⌜ Ready s ⌝ }
-    ensures { λ r. ⌜ r ≡ releaseStep s c ⌝ }
+    ensures { λ r. ⌜ Plans r s (releaseStep s c) ⌝ }
 {
     let e = release(s, c);
-    finish(e, s.wire, s)
+    judge(e, 33, s.wire.len)
 }
 
 // The packet p is delivered at its address.
@@ -49,13 +50,12 @@ pub fn deliver(to: Address, s: LockState, p: Packet) -> Effect
     }
 }
 
-pub fn deliver_step(s: LockState, i: u8) -> Stepped
+pub fn plan_deliver(s: LockState, i: u8) -> Plan
     requires { ⌜ (Ready s) × (i < s .wire .len) ⌝ }
-    ensures { λ r. ⌜ r ≡ deliverStep s i ⌝ }
+    ensures { λ r. ⌜ Plans r s (deliverStep s i) ⌝ }
 {
-    let t = take_packet(s.wire, i);
-    let p = t.packet;
+    let p = packet_at(s.wire, i);
     let to = p.to;
     let e = deliver(to, s, p);
-    finish(e, t.rest, s)
+    judge(e, i, s.wire.len - 1)
 }

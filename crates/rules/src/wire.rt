@@ -5,62 +5,59 @@ use model::Message;
 use model::Packet;
 use model::Wire;
 ghost use mathlib.Core.Path.{_≡_};
-ghost use Prim.Native.Nat.{_<_, _≤_};
+ghost use Prim.Native.Nat.{_-_, _<_, _≤_};
 ghost use lib.ListN.{take, getD};
-ghost use Rattle.model.specs.Lists.{any, removed};
+ghost use lib.Dec.{leb};
+ghost use Rattle.model.specs.Lists.{pick, any, removed};
 ghost use Rattle.model.specs.States.{blankPacket, wireOf, packets};
 ghost use Rattle.model.specs.Calls.{messageNames, names};
 ghost use Rattle.laws.specs.Shapes.{CanonicalWire};
-ghost use Rattle.rules.specs.Arrays.{cutUsed};
+ghost use Rattle.rules.specs.Arrays.{cutAt};
 
-// The slots without the packet at a position, and that packet.
-pub struct Cut {
-    pub slots: [Packet; 33],
-    pub packet: Packet,
-}
-
-// Only the used part moves: the packet at i is out, the n - 1 others stand first, and the freed slot is blank.
-pub fn cut_packets(a: [Packet; 33], i: usize, n: usize) -> Cut
-    requires { ⌜ (i < n) × (n ≤ 33) ⌝ }
-    ensures { λ r. ⌜ r ≡ record { slots = cutUsed a i n blankPacket; packet = getD a i blankPacket } ⌝ }
+// Only the used part moves: the packet at i is out of the first n, the others stand first, and the freed slot is blank. Past the n none is out.
+pub fn cut_packets(a: [Packet; 33], i: usize, n: usize) -> [Packet; 33]
+    requires { ⌜ (i ≤ 255) × (n ≤ 33) ⌝ }
+    ensures { λ r. ⌜ r ≡ cutAt a i n blankPacket ⌝ }
 {
     let mut b = a;
-    let p = b[i];
     let mut j = i;
     while j + 1 < n {
         b[j] = b[j + 1];
         j += 1;
     }
-    b[j] = blank_packet();
-    Cut {
-        slots: b,
-        packet: p,
+    if j < n {
+        b[j] = blank_packet();
     }
+    b
 }
 
-pub struct Taken {
-    pub rest: Wire,
-    pub packet: Packet,
+// How many of n packets stay.
+fn left_of(n: u8, i: u8) -> u8
+    ensures { λ r. ⌜ r ≡ pick (leb n i) n (n - 1) ⌝ }
+{
+    if i < n { n - 1 } else { n }
 }
 
-// The wire without the packet at i, and that packet.
-pub fn take_packet(w: Wire, i: u8) -> Taken
-    requires { ⌜ (CanonicalWire w) × (i < w .len) ⌝ }
-    ensures { λ r. ⌜ r ≡ record { rest = wireOf (removed (packets w) i); packet = getD (packets w) i blankPacket } ⌝ }
+// The wire without the packet at i.
+pub fn take_off(w: Wire, i: u8) -> Wire
+    requires { ⌜ CanonicalWire w ⌝ }
+    ensures { λ r. ⌜ r ≡ wireOf (removed (packets w) i) ⌝ }
 {
     let a = w.slots;
     let n = w.len;
-    let t = cut_packets(a, i as usize, n as usize);
-    let b = t.slots;
-    let p = t.packet;
-    let rest = Wire {
+    let b = cut_packets(a, i as usize, n as usize);
+    Wire {
         slots: b,
-        len: n - 1,
-    };
-    Taken {
-        rest: rest,
-        packet: p,
+        len: left_of(n, i),
     }
+}
+
+pub fn packet_at(w: Wire, i: u8) -> Packet
+    requires { ⌜ (CanonicalWire w) × (i < w .len) ⌝ }
+    ensures { λ r. ⌜ r ≡ getD (packets w) i blankPacket ⌝ }
+{
+    let j = i as usize;
+    w.slots[j]
 }
 
 // FREE names no client.

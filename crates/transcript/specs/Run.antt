@@ -5,12 +5,14 @@ use mathlib.Core.List.{List}
 use Prim.Native.Nat.{ℕ, suc, _+_, _-_, _*_, _<_, _≤_}
 use native.Mathlib.Omega.{arith}
 use lib.ListN.{length, getD, set}
+use lib.Seq.{set-getD}
 use lib.Dec.{eqb, leb, ltb}
 use borrow.Author.Tests.{leb-true, leb-false, lt-ltb, le-ltb}
 use Rattle.model.specs.declared.LockId.{LockId}
 use Rattle.model.specs.declared.LockState.{LockState}
 use Rattle.model.specs.declared.Cluster.{Cluster}
 use Rattle.model.specs.declared.Call.{Call}
+use Rattle.model.specs.declared.Refusal.{Refusal}
 use Rattle.model.specs.declared.Refusal.the-variants.{Malformed, BadRecord, TranscriptLength}
 use Rattle.model.specs.declared.Answer.the-variants.{Accepted, Refused}
 use Rattle.model.specs.declared.Stepped.{Stepped}
@@ -22,6 +24,7 @@ use Rattle.model.specs.Lists.{pick}
 use Rattle.model.specs.States.{freshLock}
 use Rattle.model.specs.WellFormed.{wellFormed}
 use Rattle.model.specs.Refusals.{first}
+use Rattle.model.specs.Changes.{refused}
 use Rattle.model.specs.Calls.{perform}
 use Rattle.model.specs.Transcripts.{short, acquireAt, releaseAt, deliverAt, wholeRecord, readRecord, replayed, replayFrom, replayUnless, replay}
 use Rattle.laws.specs.Tests.{and-right}
@@ -113,6 +116,11 @@ module _ {bytes : List ℕ} {x : Cluster} {i n : ℕ} {y : Cluster} (p : Course 
   course-step c j l d o e q h f =
       let w = p .formed in
       rw (in-place c y l d o w q h f, ← perform-written c y w (rw q at h)) (course-on c j e)
+
+  pub course-refused : (c : Call) (j : ℕ) (l : LockId) (d : LockState) (r : Refusal) → readRecord bytes i ≡ Record c j → l ≡ lockOf c → l .0 < 8
+      → refused r (getD (y .locks) (l .0) d) ≡ callWithin c (getD (y .locks) (l .0) d) → Course bytes x j (n + 1) y
+  course-refused c j l d r e q h f =
+      subst (λ (ls : List LockState). Course bytes x j (n + 1) (record { locks = ls })) (set-getD (y .locks) (l .0) d) (course-step c j l d _ e q h f)
 
   pub course-skip : (c : Call) (j : ℕ) (l : LockId) → readRecord bytes i ≡ Record c j → l ≡ lockOf c → 8 ≤ l .0 → Course bytes x j (n + 1) y
   course-skip c j l e q h =

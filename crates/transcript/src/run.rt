@@ -1,13 +1,15 @@
-// The run of a transcript. The cluster stays in one local: each record's call is made on its lock's state, which is written back in its place.
+// The run of a transcript. The cluster stays in one local: each record's call is planned on its lock's state, which is written in its place where the
+// plan accepts.
 use crate::reader::read_at;
 use engine::formed::well_formed;
-use engine::within::call_within;
 use engine::within::lock_of;
+use engine::within::plan_call;
 use model::Answer;
 use model::Cluster;
 use model::Reading;
 use model::Refusal;
 use model::Replayed;
+use rules::plan::carry_out;
 ghost use mathlib.Core.Path.{_≡_};
 ghost use mathlib.Core.Bool.{true};
 ghost use Prim.Native.Nat.{_+_, _≤_};
@@ -41,9 +43,14 @@ fn run_records(x: Cluster, bytes: &[u8]) -> Replayed
                 if l.0 < 8 {
                     let i = l.0 as usize;
                     let s = y.locks[i];
-                    let o = call_within(call, s);
-                    let t = o.state;
-                    y.locks[i] = t;
+                    let p = plan_call(call, s);
+                    let a = p.answer;
+                    match a {
+                        Answer::Accepted => {
+                            y.locks[i] = carry_out(p, s);
+                        }
+                        Answer::Refused(_) => {}
+                    }
                 }
                 at = next;
                 n += 1;

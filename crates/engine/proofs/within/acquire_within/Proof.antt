@@ -8,16 +8,16 @@ acquire-test-requires c κs = ready (c .args .s) (c .pre) .wire
 client-of-requires : tie.Need-client-of-requires
 client-of-requires c κs = in-range _ _ _ (sym (c .before .before .acquire-test .ensures) ∙ c .enum-told .given .1)
 
-acquire-step-requires : tie.Need-acquire-step-requires
-acquire-step-requires c κs = ready (c .before .before .before .before .before .args .s) (c .before .before .before .before .before .pre)
+plan-acquire-requires : tie.Need-plan-acquire-requires
+plan-acquire-requires c κs = ready (c .before .before .before .before .before .args .s) (c .before .before .before .before .before .pre)
 
 returns : tie.Need-returns
 unfolding acquireWithin stepUnless
-returns c = rw (c .acquire-step .ensures, c .before .mode-of .ensures, c .before .before .client-of .ensures, ← c .before .before .before .before .before .acquire-test .ensures, c .before .before .before .enum-told .given .1)
+returns c = rw (← c .before .before .before .before .before .acquire-test .ensures, c .before .before .before .enum-told .given .1, ← c .before .before .client-of .ensures, ← c .before .mode-of .ensures) (c .plan-acquire .ensures)
 
 returns-2 : tie.Need-returns-2
 unfolding acquireWithin stepUnless
-returns-2 c = rw (c .refuse .ensures, ← c .before .before .before .before .acquire-test .ensures, c .before .before .a .given .1)
+returns-2 c = rw (← c .before .before .before .before .acquire-test .ensures, c .before .before .a .given .1) (c .refuse .ensures (c .before .before .before .before .before .args .s))
 
 pub acquire-within-spec : {M : Type 1} → statement M
-acquire-within-spec = tie.close (tie.spec acquire-test-requires (λ c. search needs) client-of-requires (λ c κs. search needs) acquire-step-requires (λ c. search needs) (λ c κs. search needs) returns returns-2)
+acquire-within-spec = tie.close (tie.spec acquire-test-requires (λ c. search needs) client-of-requires (λ c κs. search needs) plan-acquire-requires (λ c. search needs) (λ c κs. search needs) returns returns-2)

@@ -5,16 +5,16 @@ use Rattle.engine.proofs.within.release_within.Tie as tie
 client-of-requires : tie.Need-client-of-requires
 client-of-requires c κs = in-range _ _ _ (sym (c .before .before .release-test .ensures) ∙ c .enum-told .given .1)
 
-release-step-requires : tie.Need-release-step-requires
-release-step-requires c κs = ready (c .before .before .before .before .args .s) (c .before .before .before .before .pre)
+plan-release-requires : tie.Need-plan-release-requires
+plan-release-requires c κs = ready (c .before .before .before .before .args .s) (c .before .before .before .before .pre)
 
 returns : tie.Need-returns
 unfolding releaseWithin stepUnless
-returns c = rw (c .release-step .ensures, c .before .client-of .ensures, ← c .before .before .before .before .release-test .ensures, c .before .before .enum-told .given .1)
+returns c = rw (← c .before .before .before .before .release-test .ensures, c .before .before .enum-told .given .1, ← c .before .client-of .ensures) (c .plan-release .ensures)
 
 returns-2 : tie.Need-returns-2
 unfolding releaseWithin stepUnless
-returns-2 c = rw (c .refuse .ensures, ← c .before .before .before .before .release-test .ensures, c .before .before .a .given .1)
+returns-2 c = rw (← c .before .before .before .before .release-test .ensures, c .before .before .a .given .1) (c .refuse .ensures (c .before .before .before .before .before .args .s))
 
 pub release-within-spec : {M : Type 1} → statement M
-release-within-spec = tie.close (tie.spec (λ c κs. search needs) (λ c. search needs) client-of-requires release-step-requires (λ c. search needs) (λ c κs. search needs) returns returns-2)
+release-within-spec = tie.close (tie.spec (λ c κs. search needs) (λ c. search needs) client-of-requires plan-release-requires (λ c. search needs) (λ c κs. search needs) returns returns-2)

@@ -1,9 +1,9 @@
 use Rattle.rules.proofs.Base.{needs}
-use Rattle.rules.proofs.finish.apply.Statement.{statement}
-use Rattle.rules.proofs.finish.apply.Tie as tie
+use Rattle.rules.proofs.plan.apply.Statement.{statement}
+use Rattle.rules.proofs.plan.apply.Tie as tie
 
 returns : tie.Need-returns
-returns c = rw (c .post .ensures, c .before .put-status .ensures, c .before .before .put-agent .ensures)
+returns c = rw (← c .post .ensures, ← c .before .put-status .ensures, ← c .before .before .put-agent .ensures)
 
 pub apply-spec : {M : Type 1} → statement M
 apply-spec = tie.close (tie.spec (λ c κs. search needs) (λ c κs. search needs) (λ c κs. search needs) returns)

@@ -1,6 +1,6 @@
 use Rattle.rules.proofs.Base.{_≡_, arith, length, needs, length-take-le, take-all}
-use Rattle.rules.proofs.finish.of_slots.Statement.{statement}
-use Rattle.rules.proofs.finish.of_slots.Tie as tie
+use Rattle.rules.proofs.plan.of_slots.Statement.{statement}
+use Rattle.rules.proofs.plan.of_slots.Tie as tie
 
 returns : tie.Need-returns
 returns c =

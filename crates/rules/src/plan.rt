@@ -1,11 +1,12 @@
-// An effect carried out. Rules only say what a step does; the state is written here and nowhere else, so that it is copied for a step and not for each
-// rule on the way.
+// A rule's effect judged, and carried out. Rules only say what a step does; the state is written here and nowhere else, so that it is copied for an
+// accepted step, and not for each rule on the way or for a refusal.
 use crate::blank::plain_packet;
 use crate::effect::Effect;
 use crate::effect::Sends;
+use crate::effect::cannot_place;
 use crate::state::put_agent;
 use crate::state::put_status;
-use crate::state::refuse;
+use crate::wire::take_off;
 use model::Address;
 use model::Answer;
 use model::LockState;
@@ -13,7 +14,6 @@ use model::Message;
 use model::Mode;
 use model::Packet;
 use model::Refusal;
-use model::Stepped;
 use model::Waiter;
 use model::Wire;
 ghost use mathlib.Core.Path.{_≡_};
@@ -21,11 +21,13 @@ ghost use mathlib.Core.List.{[], _∷_, _++_, map};
 ghost use Prim.Native.Nat.{_+_, _≤_};
 ghost use lib.ListN.{length, take};
 ghost use lib.Seq.{sets};
+ghost use Rattle.model.specs.Lists.{removed};
 ghost use Rattle.model.specs.States.{wireOf, packets};
-ghost use Rattle.model.specs.Changes.{apply, finish};
+ghost use Rattle.model.specs.Changes.{apply, refused, finish};
 ghost use Rattle.model.specs.AtMachine.{grantOf};
 ghost use Rattle.laws.specs.Shapes.{CanonicalWire};
 ghost use Rattle.rules.specs.Effects.{sentBy, changeOf, verdictOf};
+ghost use Rattle.rules.specs.Plans.{leftBy, carriedOut, Plans};
 
 // How many of two packets a count means.
 fn of_two(n: u8) -> u8
@@ -122,23 +124,50 @@ fn apply(e: Effect, rest: Wire, s: LockState) -> LockState
     }
 }
 
-// Refusals 9 and 10 leave the state as it was.
-pub fn finish(e: Effect, rest: Wire, s: LockState) -> Stepped
-    requires { ⌜ CanonicalWire rest ⌝ }
-    ensures { λ r. ⌜ r ≡ finish (verdictOf e) (packets rest) s ⌝ }
+// A step before it is made: its answer and, where that accepts, the place of the packet that it takes off the wire and its effect. A place past the
+// wire's end takes none off.
+pub struct Plan {
+    pub answer: Answer,
+    pub place: u8,
+    pub effect: Effect,
+}
+
+// Refusals 9 and 10; n packets stay on the wire.
+pub fn judge(e: Effect, i: u8, n: u8) -> Plan
+    requires { ⌜ n ≤ 33 ⌝ }
+    ensures { λ r. ⌜ ((s : LockState) → length (removed (packets (s .wire)) i) ≡ n → Plans r s (finish (verdictOf e) (removed (packets (s .wire)) i) s)) ⌝ }
 {
     if e.placed {
-        let n = sent_count(e.sends);
-        if rest.len + n <= 33 {
-            let t = apply(e, rest, s);
-            Stepped {
+        let k = sent_count(e.sends);
+        if n + k <= 33 {
+            Plan {
                 answer: Answer::Accepted,
-                state: t,
+                place: i,
+                effect: e,
             }
         } else {
-            refuse(Refusal::WireFull, s)
+            refuse(Refusal::WireFull)
         }
     } else {
-        refuse(Refusal::CannotPlace, s)
+        refuse(Refusal::CannotPlace)
     }
+}
+
+pub fn refuse(n: Refusal) -> Plan
+    ensures { λ r. ⌜ ((s : LockState) → Plans r s (refused n s)) ⌝ }
+{
+    let e = cannot_place();
+    Plan {
+        answer: Answer::Refused(n),
+        place: 33,
+        effect: e,
+    }
+}
+
+// An accepted step is made.
+pub fn carry_out(p: Plan, s: LockState) -> LockState
+    requires { ⌜ (CanonicalWire (s .wire)) × (length (leftBy p s) + length (sentBy (p .effect .sends)) ≤ 33) ⌝ }
+    ensures { λ r. ⌜ r ≡ carriedOut p s ⌝ }
+{
+    apply(p.effect, take_off(s.wire, p.place), s)
 }

@@ -1,6 +1,6 @@
 use Rattle.rules.proofs.Base.{arith, needs, sent-length}
-use Rattle.rules.proofs.finish.sent_count.Statement.{statement}
-use Rattle.rules.proofs.finish.sent_count.Tie as tie
+use Rattle.rules.proofs.plan.sent_count.Statement.{statement}
+use Rattle.rules.proofs.plan.sent_count.Tie as tie
 
 returns : tie.Need-returns
 returns c =

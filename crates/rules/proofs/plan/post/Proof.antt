@@ -1,6 +1,6 @@
 use Rattle.rules.proofs.Base.{[], _∷_, arith, take, needs, waiters, sentBy, sent-length, posted-both}
-use Rattle.rules.proofs.finish.post.Statement.{statement}
-use Rattle.rules.proofs.finish.post.Tie as tie
+use Rattle.rules.proofs.plan.post.Statement.{statement}
+use Rattle.rules.proofs.plan.post.Tie as tie
 
 lay-packets-requires : tie.Need-lay-packets-requires
 lay-packets-requires c κs =

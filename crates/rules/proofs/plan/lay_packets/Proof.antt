@@ -1,6 +1,6 @@
 use Rattle.rules.proofs.Base.{_≡_, _∙_, [], _∷_, ⊎-elim, arith, needs, add-one, take-all, some-of-two, all-of-two, lays-none, lays-one}
-use Rattle.rules.proofs.finish.lay_packets.Statement.{statement}
-use Rattle.rules.proofs.finish.lay_packets.Tie as tie
+use Rattle.rules.proofs.plan.lay_packets.Statement.{statement}
+use Rattle.rules.proofs.plan.lay_packets.Tie as tie
 
 array-set-from-b : tie.Need-array-set-from-b
 array-set-from-b c =

@@ -1,6 +1,6 @@
 use Rattle.rules.proofs.Base.{arith, needs, few-of-two, all-of-two}
-use Rattle.rules.proofs.finish.of_two.Statement.{statement}
-use Rattle.rules.proofs.finish.of_two.Tie as tie
+use Rattle.rules.proofs.plan.of_two.Statement.{statement}
+use Rattle.rules.proofs.plan.of_two.Tie as tie
 
 returns : tie.Need-returns
 returns c = (omega arith, few-of-two _ (omega arith))

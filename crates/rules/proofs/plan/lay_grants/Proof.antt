@@ -1,6 +1,6 @@
 use Rattle.rules.proofs.Base.{_≡_, sym, _∙_, map, _+_, _-_, _≤_, arith, length, take, drop, length-set, sets, needs, blankWaiter, opened, closed, grantOf, add-one}
-use Rattle.rules.proofs.finish.lay_grants.Statement.{statement}
-use Rattle.rules.proofs.finish.lay_grants.Tie as tie
+use Rattle.rules.proofs.plan.lay_grants.Statement.{statement}
+use Rattle.rules.proofs.plan.lay_grants.Tie as tie
 
 abbrev Inv-loop : tie.InvT-loop
 Inv-loop n m ws b₀ j₀ b j = (sets b (n + j) (map grantOf (drop j (take m ws))) ≡ sets b₀ n (map grantOf (take m ws))) × ((length b ≡ 33) × (j ≤ m))

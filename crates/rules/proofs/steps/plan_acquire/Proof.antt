@@ -1,0 +1,17 @@
+use Rattle.rules.proofs.Base.{ap, _∙_, arith, length, needs, packets, acquireStep, length-packets, removed-none}
+use Rattle.rules.proofs.steps.plan_acquire.Statement.{statement}
+use Rattle.rules.proofs.steps.plan_acquire.Tie as tie
+
+acquire-requires : tie.Need-acquire-requires
+acquire-requires c κs = c .pre .agents _
+
+returns : tie.Need-returns
+unfolding acquireStep
+returns c =
+    let s = c .before .before .args .s in
+    let h = c .before .before .pre .wire in
+    let g = removed-none (packets (s .wire)) 33 (omega (arith, length-packets (s .wire) h, h .short)) in
+    rw (c .before .acquire .ensures, g) at (c .judge .ensures s (ap length g ∙ length-packets (s .wire) h))
+
+pub plan-acquire-spec : {M : Type 1} → statement M
+plan-acquire-spec = tie.close (tie.spec acquire-requires (λ c κs. search needs) returns)

@@ -1,0 +1,79 @@
+-- What a plan leads to: the step that it plans.
+use mathlib.Core.Path.{_≡_, refl, sym, ap, _∙_}
+use mathlib.Core.Bool.{true, false}
+use mathlib.Core.List.{List}
+use Prim.Native.Nat.{ℕ, _+_, _<_, _≤_}
+use native.Mathlib.Omega.{arith}
+use lib.ListN.{length}
+use lib.Dec.{leb}
+use borrow.Author.Tests.{le-leb, lt-leb}
+use Rattle.rules.specs.declared.effect.Effect.{Effect}
+use Rattle.rules.specs.declared.plan.Plan.{Plan}
+use Rattle.rules.specs.Names.{Packet, Wire, LockState, Refusal, CannotPlace, WireFull, Answer, Accepted, Refused, Stepped}
+use Rattle.model.specs.Lists.{removed}
+use Rattle.model.specs.States.{wireOf, packets}
+use Rattle.model.specs.Changes.{Verdict, cannot-place, does, apply, accepted, refused, finish}
+use Rattle.laws.specs.Tests.{pick-yes, pick-no}
+use Rattle.laws.specs.Shapes.{CanonicalWire, canonical-wire}
+use Rattle.rules.specs.Effects.{sentBy, changeOf, verdictOf}
+
+-- the packets that stay on the wire
+abbrev pub leftBy : Plan → LockState → List Packet
+leftBy p s = removed (packets (s .wire)) (p .place)
+
+abbrev pub carriedOut : Plan → LockState → LockState
+carriedOut p s = apply (changeOf (p .effect)) (leftBy p s) s
+
+unfoldable pub endsWith : Answer → Plan → LockState → Stepped
+endsWith Accepted p s = accepted (carriedOut p s)
+endsWith (Refused n) p s = refused n s
+
+-- p plans the step t on s
+pub record Plans (p : Plan) (s : LockState) (t : Stepped) : Type 0 where
+  pub ends : endsWith (p .answer) p s ≡ t
+  pub fits : p .answer ≡ Accepted → length (leftBy p s) + length (sentBy (p .effect .sends)) ≤ 33
+
+module _ {p : Plan} {s : LockState} {t : Stepped} (h : Plans p s t) where
+  pub plan-accepts : p .answer ≡ Accepted → accepted (carriedOut p s) ≡ t
+  unfolding endsWith
+  plan-accepts e = ap (λ (a : Answer). endsWith a p s) (sym e) ∙ h .ends
+
+  pub plan-refuses : (n : Refusal) → p .answer ≡ Refused n → refused n s ≡ t
+  unfolding endsWith
+  plan-refuses n e = ap (λ (a : Answer). endsWith a p s) (sym e) ∙ h .ends
+
+refused-accepted : (n : Refusal) → Refused n ≡ Accepted → ⊥
+refused-accepted n e = let z : _≡_ {A = ℕ} 0 1 = cc in absurd (omega arith)
+
+-- ---- how a rule's effect is judged
+pub plans-refusal : (p : Plan) (n : Refusal) (s : LockState) → p .answer ≡ Refused n → Plans p s (refused n s)
+unfolding endsWith
+plans-refusal p n s e = record { ends = ap (λ (a : Answer). endsWith a p s) e; fits = λ q. absurd (refused-accepted n (sym e ∙ q)) }
+
+module _ (e : Effect) (rest : List Packet) (s : LockState) where
+  pub finish-stuck : e .placed ≡ false → refused CannotPlace s ≡ finish (verdictOf e) rest s
+  unfolding finish verdictOf
+  finish-stuck p = sym (ap (λ (v : Verdict). finish v rest s) (pick-no (does (changeOf e)) p))
+
+  module _ (p : e .placed ≡ true) where
+    pub finish-full : 33 < length rest + length (sentBy (e .sends)) → refused WireFull s ≡ finish (verdictOf e) rest s
+    unfolding finish verdictOf
+    finish-full k =
+        let f : leb (length rest + length (sentBy (e .sends))) 33 ≡ false = lt-leb (length rest + length (sentBy (e .sends))) 33 k in
+        sym (ap (λ (v : Verdict). finish v rest s) (pick-yes cannot-place p) ∙ pick-no (accepted (apply (changeOf e) rest s)) f)
+
+    finish-fits : length rest + length (sentBy (e .sends)) ≤ 33 → accepted (apply (changeOf e) rest s) ≡ finish (verdictOf e) rest s
+    unfolding finish verdictOf
+    finish-fits k =
+        let f : leb (length rest + length (sentBy (e .sends))) 33 ≡ true = le-leb (length rest + length (sentBy (e .sends))) 33 k in
+        sym (ap (λ (v : Verdict). finish v rest s) (pick-yes cannot-place p) ∙ pick-yes (refused WireFull s) f)
+
+pub plans-effect : (e : Effect) (i : ℕ) (s : LockState) → e .placed ≡ true → length (removed (packets (s .wire)) i) + length (sentBy (e .sends)) ≤ 33
+    → Plans (record { answer = Accepted; place = i; effect = e }) s (finish (verdictOf e) (removed (packets (s .wire)) i) s)
+unfolding endsWith
+plans-effect e i s p k = record { ends = finish-fits e (removed (packets (s .wire)) i) s p k; fits = λ q. k }
+
+-- ---- the wire without the packet taken off has room for those sent
+pub rest-fits : (w : Wire) (ps : List Packet) (k : ℕ) → w ≡ wireOf ps → length ps + k ≤ 33 → (CanonicalWire w) × (w .len + k ≤ 33)
+unfolding wireOf
+rest-fits w ps k e h = rw e (canonical-wire ps (omega arith), h)
