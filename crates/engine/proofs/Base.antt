@@ -1,9 +1,9 @@
--- The names that the proofs cite.
+-- The names that the proofs of the test of well-formedness and of the drain cite.
 pub use mathlib.Core.Path.{_≡_, sym, ap, _∙_}
 pub use mathlib.Core.Bool.{Bool, false, false≢true, _&&_, not, and-assoc}
 pub use Prim.Native.Nat.{_-_, _≤_}
 pub use native.Mathlib.Omega.{arith}
-pub use lib.ListN.{length, take, drop, getD, length-set}
+pub use lib.ListN.{length, take, drop, length-set}
 pub use borrow.Author.Needs.{needs}
 pub use Rattle.model.specs.Lists.{all}
 pub use Rattle.model.specs.States.{blankWaiter, freshLock}
@@ -22,7 +22,6 @@ pub use Rattle.laws.specs.Formed.{ready}
 pub use Rattle.laws.specs.Kept.{release-formed, deliver-formed}
 pub use Rattle.engine.specs.Sweep.{Course, course-start, delivers-next, releases-next, leg-on, leg-rests, leg-spent, leg-refused, course-on}
 pub use Rattle.engine.specs.Names.{LockState}
-pub use Rattle.model.specs.States.{lockIn}
 pub use Rattle.laws.specs.Formed.{eight, lock-formed}
 pub use Rattle.engine.specs.Sweep.{sweep, drain-ends, drain-stops, drain-malformed, drain-range}
 pub use Rattle.rules.specs.Plans.{plan-accepts, plan-refuses}

@@ -1,22 +1,21 @@
 -- The names that the proofs cite.
 pub use mathlib.Core.Path.{_≡_, refl, sym, ap, _∙_}
-pub use mathlib.Core.Bool.{Bool, true, false, false≢true, _&&_, not}
-pub use mathlib.Core.List.{List, [], _∷_, _++_, map}
+pub use mathlib.Core.Bool.{Bool, true, false}
+pub use mathlib.Core.List.{[], _∷_, map}
 pub use mathlib.Core.Logic.{⊎-elim}
 pub use native.Mathlib.Numerals.{add-one}
 pub use Prim.Native.Nat.{_+_, _-_, _<_, _≤_}
 pub use native.Mathlib.Omega.{arith}
-pub use lib.ListN.{length, take, drop, getD, length-set, List·getD-eq-default, length-map}
-pub use lib.Seq.{set-out, append-snoc, length-take-le, take-all, sets, length-sets}
+pub use lib.ListN.{length, take, drop, length-set, List·getD-eq-default}
+pub use lib.Seq.{set-out, length-take-le, take-all, sets}
 pub use borrow.Author.Needs.{needs}
 pub use borrow.Author.Tests.{eq-eqb, ne-eqb, le-leb, lt-leb}
-pub use Rattle.rules.specs.Names.{Waiter, Packet, ClientState}
+pub use Rattle.rules.specs.Names.{ClientState}
 pub use Rattle.model.specs.Lists.{any, removed}
 unfoldable pub use Rattle.model.specs.Lists.{padded}
-pub use Rattle.model.specs.States.{machineOf, isShared, blankWaiter, agentOn, idle}
+pub use Rattle.model.specs.States.{machineOf, blankWaiter, agentOn, idle}
 unfoldable pub use Rattle.model.specs.States.{queueOf, waiters, noAgent, blankPacket, packets}
 pub use Rattle.model.specs.WellFormed.{isClient}
-unfoldable pub use Rattle.model.specs.Changes.{finish}
 pub use Rattle.model.specs.AtMachine.{grantOf}
 pub use Rattle.model.specs.Calls.{names}
 pub use Rattle.laws.specs.Lists.{getD-any, length-removed}
@@ -32,7 +31,7 @@ pub use Rattle.rules.specs.Deciding.{marked-sent}
 pub use Rattle.model.specs.Asking.{lists}
 unfoldable pub use Rattle.model.specs.Asking.{asks, acquires, leaves, releases}
 unfoldable pub use Rattle.model.specs.AtDecider.{toOwner, decidesAcquire, decidesFree, decidesGrant, decides, atDecider}
-unfoldable pub use Rattle.model.specs.AtMachine.{ofMode, admitted, staying, joined, installs, granted, marked, unmarked, acquired, released, returned, arrives, atMachine}
+unfoldable pub use Rattle.model.specs.AtMachine.{admitted, staying, joined, installs, granted, marked, unmarked, acquired, released, returned, arrives, atMachine}
 unfoldable pub use Rattle.model.specs.Calls.{delivers, acquireStep, releaseStep, deliverStep}
 pub use Rattle.laws.specs.Tests.{pick-yes, pick-no}
-pub use Rattle.rules.specs.Plans.{Plans, finish-stuck, finish-full, plans-refusal, plans-effect, rest-fits}
+pub use Rattle.rules.specs.Plans.{finish-stuck, finish-full, plans-refusal, plans-effect, rest-fits}

@@ -1,4 +1,4 @@
-use Rattle.engine.proofs.Rules.{needs, perform}
+use Rattle.engine.proofs.Calls.{needs, perform}
 use Rattle.engine.proofs.deliver.Statement.{statement}
 use Rattle.engine.proofs.deliver.Tie as tie
 

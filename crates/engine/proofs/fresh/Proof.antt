@@ -1,4 +1,4 @@
-use Rattle.engine.proofs.Rules.{needs, fresh}
+use Rattle.engine.proofs.Calls.{needs, fresh}
 use Rattle.engine.proofs.fresh.Statement.{statement}
 use Rattle.engine.proofs.fresh.Tie as tie
 

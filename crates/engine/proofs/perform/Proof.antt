@@ -1,4 +1,4 @@
-use Rattle.engine.proofs.Rules.{_≡_, ap, sym, _∙_, true, _<_, _≤_, arith, needs, freshLock, getD-any, eight, lock-formed, lockIn, ready, LockState, carriedOut, perform-accepts, perform-refuses, perform-malformed, perform-range}
+use Rattle.engine.proofs.Calls.{_≡_, ap, sym, _∙_, _<_, _≤_, arith, needs, freshLock, getD-any, eight, lock-formed, lockIn, ready, LockState, carriedOut, perform-accepts, perform-refuses, perform-malformed, perform-range}
 use Rattle.engine.proofs.perform.Statement.{statement}
 use Rattle.engine.proofs.perform.Tie as tie
 

@@ -1,4 +1,4 @@
-use Rattle.engine.proofs.Rules.{needs, padded, wireOf}
+use Rattle.engine.proofs.Calls.{needs, padded, wireOf}
 use Rattle.engine.proofs.cluster.empty_wire.Statement.{statement}
 use Rattle.engine.proofs.cluster.empty_wire.Tie as tie
 

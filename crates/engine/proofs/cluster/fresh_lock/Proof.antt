@@ -1,4 +1,4 @@
-use Rattle.engine.proofs.Rules.{needs, freshLock}
+use Rattle.engine.proofs.Calls.{needs, freshLock}
 use Rattle.engine.proofs.cluster.fresh_lock.Statement.{statement}
 use Rattle.engine.proofs.cluster.fresh_lock.Tie as tie
 

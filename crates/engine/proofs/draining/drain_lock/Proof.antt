@@ -1,4 +1,4 @@
-use Rattle.engine.proofs.Base.{_≡_, sym, _∙_, ap, getD, arith, needs, LockState, freshLock, lockIn, getD-any, eight, lock-formed, sweep, drain-ends, drain-stops}
+use Rattle.engine.proofs.Base.{_∙_, ap, arith, needs, LockState, freshLock, getD-any, eight, lock-formed, sweep, drain-ends, drain-stops}
 use Rattle.engine.proofs.draining.drain_lock.Statement.{statement}
 use Rattle.engine.proofs.draining.drain_lock.Tie as tie
 

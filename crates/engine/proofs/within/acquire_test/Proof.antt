@@ -1,4 +1,4 @@
-use Rattle.engine.proofs.Rules.{_≡_, sym, _∙_, false, _||_, not, eqb, needs, le-leb, lt-leb, first, first-no}
+use Rattle.engine.proofs.Calls.{_≡_, sym, _∙_, false, _||_, not, eqb, needs, le-leb, lt-leb, first, first-no}
 use Rattle.engine.proofs.within.acquire_test.Statement.{statement}
 use Rattle.engine.proofs.within.acquire_test.Tie as tie
 

@@ -1,4 +1,4 @@
-use Rattle.engine.proofs.Rules.{sym, _∙_, needs, ready, in-range, stepUnless, acquireWithin}
+use Rattle.engine.proofs.Calls.{sym, _∙_, needs, ready, in-range, stepUnless, acquireWithin}
 use Rattle.engine.proofs.within.acquire_within.Statement.{statement}
 use Rattle.engine.proofs.within.acquire_within.Tie as tie
 

@@ -1,4 +1,4 @@
-use Rattle.engine.proofs.Rules.{needs, ready, plan-accepts, plan-refuses}
+use Rattle.engine.proofs.Calls.{needs, ready, plan-accepts, plan-refuses}
 use Rattle.engine.proofs.within.call_within.Statement.{statement}
 use Rattle.engine.proofs.within.call_within.Tie as tie
 

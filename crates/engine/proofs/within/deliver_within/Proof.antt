@@ -1,4 +1,4 @@
-use Rattle.engine.proofs.Rules.{_<_, _≤_, arith, length, needs, packets, first, lt-leb, le-leb, length-packets, ready, stepUnless, deliverWithin}
+use Rattle.engine.proofs.Calls.{_<_, _≤_, arith, length, needs, packets, first, lt-leb, le-leb, length-packets, ready, stepUnless, deliverWithin}
 use Rattle.engine.proofs.within.deliver_within.Statement.{statement}
 use Rattle.engine.proofs.within.deliver_within.Tie as tie
 

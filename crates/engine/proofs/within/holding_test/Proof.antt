@@ -1,4 +1,4 @@
-use Rattle.engine.proofs.Rules.{_≡_, sym, _∙_, true, false, needs, statusOf, first, isHolding}
+use Rattle.engine.proofs.Calls.{_≡_, sym, _∙_, true, false, needs, statusOf, first, isHolding}
 use Rattle.engine.proofs.within.holding_test.Statement.{statement}
 use Rattle.engine.proofs.within.holding_test.Tie as tie
 

@@ -1,4 +1,4 @@
-use Rattle.engine.proofs.Rules.{eq-eqb, ne-eqb}
+use Rattle.engine.proofs.Calls.{eq-eqb, ne-eqb}
 use Rattle.engine.proofs.within.is_mode.Statement.{statement}
 use Rattle.engine.proofs.within.is_mode.Tie as tie
 

@@ -1,4 +1,4 @@
-use Rattle.engine.proofs.Rules.{eq-eqb, ne-eqb}
+use Rattle.engine.proofs.Calls.{eq-eqb, ne-eqb}
 use Rattle.engine.proofs.within.mode_of.Statement.{statement}
 use Rattle.engine.proofs.within.mode_of.Tie as tie
 

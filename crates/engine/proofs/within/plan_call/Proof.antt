@@ -1,4 +1,4 @@
-use Rattle.engine.proofs.Rules.{needs, callWithin}
+use Rattle.engine.proofs.Calls.{needs, callWithin}
 use Rattle.engine.proofs.within.plan_call.Statement.{statement}
 use Rattle.engine.proofs.within.plan_call.Tie as tie
 

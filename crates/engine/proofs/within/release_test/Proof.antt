@@ -1,4 +1,4 @@
-use Rattle.engine.proofs.Rules.{needs, le-leb, lt-leb, first}
+use Rattle.engine.proofs.Calls.{needs, le-leb, lt-leb, first}
 use Rattle.engine.proofs.within.release_test.Statement.{statement}
 use Rattle.engine.proofs.within.release_test.Tie as tie
 

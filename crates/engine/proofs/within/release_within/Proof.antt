@@ -1,4 +1,4 @@
-use Rattle.engine.proofs.Rules.{sym, _∙_, needs, ready, in-range, stepUnless, releaseWithin}
+use Rattle.engine.proofs.Calls.{sym, _∙_, needs, ready, in-range, stepUnless, releaseWithin}
 use Rattle.engine.proofs.within.release_within.Statement.{statement}
 use Rattle.engine.proofs.within.release_within.Tie as tie
 

@@ -1,4 +1,4 @@
-use Rattle.rules.proofs.Base.{sym, _∙_, needs, marked-sent}
+use Rattle.rules.proofs.Base.{sym, needs, marked-sent}
 use Rattle.rules.proofs.decider.decides_acquire.Statement.{statement}
 use Rattle.rules.proofs.decider.decides_acquire.Tie as tie
 

@@ -1,4 +1,4 @@
-use Rattle.rules.proofs.Base.{sym, _∙_, needs, toOwner, decidesAcquire, pick-no}
+use Rattle.rules.proofs.Base.{needs, toOwner, decidesAcquire}
 use Rattle.rules.proofs.decider.decides_unmarked.Statement.{statement}
 use Rattle.rules.proofs.decider.decides_unmarked.Tie as tie
 

@@ -1,4 +1,4 @@
-use Rattle.rules.proofs.Base.{refl, needs, verdictOf}
+use Rattle.rules.proofs.Base.{refl, verdictOf}
 use Rattle.rules.proofs.effect.seating_telling.Statement.{statement}
 use Rattle.rules.proofs.effect.seating_telling.Tie as tie
 

@@ -1,4 +1,4 @@
-use Rattle.rules.proofs.Base.{arith, needs, waiters, room-start, admits-start}
+use Rattle.rules.proofs.Base.{needs, waiters, room-start, admits-start}
 use Rattle.rules.proofs.machine.admit_queue.Statement.{statement}
 use Rattle.rules.proofs.machine.admit_queue.Tie as tie
 

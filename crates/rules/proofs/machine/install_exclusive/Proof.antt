@@ -1,4 +1,4 @@
-use Rattle.rules.proofs.Base.{sym, needs, queue-whole, admitted, staying, joined, installs}
+use Rattle.rules.proofs.Base.{needs, queue-whole, admitted, staying, joined, installs}
 use Rattle.rules.proofs.machine.install_exclusive.Statement.{statement}
 use Rattle.rules.proofs.machine.install_exclusive.Tie as tie
 

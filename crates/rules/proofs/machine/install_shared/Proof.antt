@@ -1,4 +1,4 @@
-use Rattle.rules.proofs.Base.{needs, queueOf, waiters, waiters-of, ofMode, admitted, staying, installs}
+use Rattle.rules.proofs.Base.{needs, waiters-of, admitted, staying, installs}
 use Rattle.rules.proofs.machine.install_shared.Statement.{statement}
 use Rattle.rules.proofs.machine.install_shared.Tie as tie
 

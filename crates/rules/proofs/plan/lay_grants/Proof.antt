@@ -1,4 +1,4 @@
-use Rattle.rules.proofs.Base.{_≡_, sym, _∙_, map, _+_, _-_, _≤_, arith, length, take, drop, length-set, sets, needs, blankWaiter, opened, closed, grantOf, add-one}
+use Rattle.rules.proofs.Base.{_≡_, _∙_, map, _+_, _-_, _≤_, arith, length, take, drop, length-set, sets, needs, blankWaiter, opened, closed, grantOf, add-one}
 use Rattle.rules.proofs.plan.lay_grants.Statement.{statement}
 use Rattle.rules.proofs.plan.lay_grants.Tie as tie
 

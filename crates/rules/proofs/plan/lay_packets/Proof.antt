@@ -1,4 +1,4 @@
-use Rattle.rules.proofs.Base.{_≡_, _∙_, [], _∷_, ⊎-elim, arith, needs, add-one, take-all, some-of-two, all-of-two, lays-none, lays-one}
+use Rattle.rules.proofs.Base.{_∙_, [], _∷_, ⊎-elim, arith, needs, add-one, take-all, some-of-two, all-of-two, lays-none, lays-one}
 use Rattle.rules.proofs.plan.lay_packets.Statement.{statement}
 use Rattle.rules.proofs.plan.lay_packets.Tie as tie
 

@@ -1,4 +1,4 @@
-use Rattle.rules.proofs.Base.{arith, needs, few-of-two, all-of-two}
+use Rattle.rules.proofs.Base.{arith, few-of-two, all-of-two}
 use Rattle.rules.proofs.plan.of_two.Statement.{statement}
 use Rattle.rules.proofs.plan.of_two.Tie as tie
 

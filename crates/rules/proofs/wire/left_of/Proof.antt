@@ -1,4 +1,4 @@
-use Rattle.rules.proofs.Base.{sym, arith, needs, lt-leb, le-leb, pick-yes, pick-no}
+use Rattle.rules.proofs.Base.{sym, needs, lt-leb, le-leb, pick-yes, pick-no}
 use Rattle.rules.proofs.wire.left_of.Statement.{statement}
 use Rattle.rules.proofs.wire.left_of.Tie as tie
 

@@ -1,4 +1,4 @@
--- The names that the proofs of the decider's and the clients' rules and of the public calls cite.
+-- The names that the proofs of the calls cite.
 pub use mathlib.Core.Path.{_≡_, sym, ap, _∙_}
 pub use mathlib.Core.Bool.{true, false, _||_, not}
 pub use Prim.Native.Nat.{_<_, _≤_}
