@@ -11,7 +11,7 @@ unfoldable pub use Rattle.model.specs.States.{noAgent, blankPacket}
 pub use Rattle.model.specs.WellFormed.{slotBy}
 pub use Rattle.laws.specs.Lists.{getD-any}
 pub use Rattle.laws.specs.Shapes.{length-packets}
-pub use Rattle.rules.specs.Scans.{join-next, join-end, first-next, first-end}
+pub use Rattle.parts.specs.Scans.{join-next, join-end, first-next, first-end}
 pub use lib.Dec.{eqb}
 unfoldable pub use Rattle.model.specs.WellFormed.{shaped, isBlankWaiter, queueFormed, agentFormed, isBlankAgent, slotFormed, messageFormed, packetFormed, isBlankPacket, wireFormed, lockFormed, wellFormed}
 pub use Rattle.engine.specs.FormedLaws.{shaped-short, pass-whole, pass-far, pass-twice, pass-next, pass-end}

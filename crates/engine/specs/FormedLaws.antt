@@ -13,7 +13,7 @@ use Rattle.engine.specs.Names.{ClientId, Waiter}
 use Rattle.model.specs.Lists.{any, all}
 use Rattle.model.specs.WellFormed.{shaped, isClient, distinct, waiterInRange}
 use Rattle.laws.specs.Tests.{and-left, and-right, bool-cases}
-use Rattle.rules.specs.Scans.{opened, closed}
+use Rattle.parts.specs.Scans.{opened, closed}
 
 pub shaped-short : {A : Type 0} (n : ℕ) (p : A → Bool) (slots : List A) (len : ℕ) → shaped n p slots len ≡ true → len ≤ n
 unfolding shaped

@@ -6,23 +6,17 @@ pub use mathlib.Core.Logic.{⊎-elim}
 pub use native.Mathlib.Numerals.{add-one}
 pub use Prim.Native.Nat.{_+_, _-_, _<_, _≤_}
 pub use native.Mathlib.Omega.{arith}
-pub use lib.ListN.{length, take, drop, length-set, List·getD-eq-default}
-pub use lib.Seq.{set-out, length-take-le, take-all, sets}
+pub use lib.ListN.{length, take, drop, length-set}
+pub use lib.Seq.{length-take-le, take-all, sets}
 pub use borrow.Author.Needs.{needs}
-pub use borrow.Author.Tests.{eq-eqb, ne-eqb, le-leb, lt-leb}
-pub use Rattle.rules.specs.Names.{ClientState}
-pub use Rattle.model.specs.Lists.{any, removed}
-unfoldable pub use Rattle.model.specs.Lists.{padded}
-pub use Rattle.model.specs.States.{machineOf, blankWaiter, agentOn, idle}
-unfoldable pub use Rattle.model.specs.States.{queueOf, waiters, noAgent, blankPacket, packets}
-pub use Rattle.model.specs.WellFormed.{isClient}
+pub use Rattle.model.specs.Lists.{removed}
+pub use Rattle.model.specs.States.{machineOf, blankWaiter, agentOn}
+unfoldable pub use Rattle.model.specs.States.{queueOf, waiters, packets}
 pub use Rattle.model.specs.AtMachine.{grantOf}
-pub use Rattle.model.specs.Calls.{names}
-pub use Rattle.laws.specs.Lists.{getD-any, length-removed}
-pub use Rattle.laws.specs.Shapes.{packets-of, waiters-of, length-packets, queue-whole, packet-is, waiter-is}
-pub use Rattle.rules.specs.Arrays.{cutUsed, cutUsed-step, cutUsed-last, cutAt, cutAt-in, cutAt-out, slid, slid-down, slid-last}
-pub use Rattle.rules.specs.Writes.{queued-at, removed-none, cut-off, popped, fronted}
-pub use Rattle.rules.specs.Scans.{any-hit, any-miss, any-none, opened, closed, used-hit, used-miss, used-none}
+pub use Rattle.laws.specs.Lists.{length-removed}
+pub use Rattle.laws.specs.Shapes.{packets-of, waiters-of, length-packets, queue-whole}
+pub use Rattle.parts.specs.Writes.{removed-none}
+pub use Rattle.parts.specs.Scans.{opened, closed}
 unfoldable pub use Rattle.rules.specs.Effects.{sentBy, verdictOf}
 pub use Rattle.rules.specs.Effects.{sent-length, few-of-two, some-of-two, all-of-two, lays-none, lays-one, posted-both}
 pub use Rattle.rules.specs.Leaving.{hands-on, frees}

@@ -13,7 +13,7 @@ use Rattle.model.specs.States.{waiters, wireOf, packets}
 use Rattle.model.specs.Changes.{Change, Verdict, cannot-place, does}
 use Rattle.model.specs.AtMachine.{grantOf}
 use Rattle.laws.specs.Shapes.{CanonicalWire, packets-of, canonical-wire, wire-whole, length-packets}
-use Rattle.rules.specs.Writes.{sent-at}
+use Rattle.parts.specs.Writes.{sent-at}
 
 -- the packets sent, in their order
 unfoldable pub sentBy : Sends → List Packet

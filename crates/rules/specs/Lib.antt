@@ -1,8 +1,5 @@
--- What the code does to arrays, and laws that join it to the model's definitions over lists.
+-- What an effect and a plan mean, and laws of the rules that give them.
 pub mod Names
-pub mod Arrays
-pub mod Writes
-pub mod Scans
 pub mod Effects
 pub mod Plans
 pub mod Leaving

@@ -13,7 +13,6 @@ pub use Rattle.model.specs.declared.Message.the-variants.{Free, Grant}
 pub use Rattle.model.specs.declared.Packet.{Packet}
 pub use Rattle.model.specs.declared.Wire.{Wire}
 pub use Rattle.model.specs.declared.Status.the-variants.{Waiting}
-pub use Rattle.model.specs.declared.ClientState.{ClientState}
 pub use Rattle.model.specs.declared.LockState.{LockState}
 pub use Rattle.model.specs.declared.Refusal.{Refusal}
 pub use Rattle.model.specs.declared.Refusal.the-variants.{CannotPlace, WireFull}

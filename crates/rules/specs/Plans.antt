@@ -19,7 +19,7 @@ use Rattle.rules.specs.Effects.{sentBy, changeOf, verdictOf}
 
 -- the packets that stay on the wire
 abbrev pub leftBy : Plan → LockState → List Packet
-leftBy p s = removed (packets (s .wire)) (p .place)
+leftBy p s = removed (packets (s .wire)) (p .index)
 
 abbrev pub carriedOut : Plan → LockState → LockState
 carriedOut p s = apply (changeOf (p .effect)) (leftBy p s) s
@@ -69,7 +69,7 @@ module _ (e : Effect) (rest : List Packet) (s : LockState) where
         sym (ap (λ (v : Verdict). finish v rest s) (pick-yes cannot-place p) ∙ pick-yes (refused WireFull s) f)
 
 pub plans-effect : (e : Effect) (i : ℕ) (s : LockState) → e .placed ≡ true → length (removed (packets (s .wire)) i) + length (sentBy (e .sends)) ≤ 33
-    → Plans (record { answer = Accepted; place = i; effect = e }) s (finish (verdictOf e) (removed (packets (s .wire)) i) s)
+    → Plans (record { answer = Accepted; index = i; effect = e }) s (finish (verdictOf e) (removed (packets (s .wire)) i) s)
 unfolding endsWith
 plans-effect e i s p k = record { ends = finish-fits e (removed (packets (s .wire)) i) s p k; fits = λ q. k }
 

@@ -1,7 +1,4 @@
 // Deliveries at the decider. Parameters of a rule: s the state as given, p the packet, o the owner in s.
-use crate::blank::new_agent;
-use crate::blank::plain_packet;
-use crate::blank::seat;
 use crate::effect::Effect;
 use crate::effect::cannot_place;
 use crate::effect::deciding;
@@ -9,7 +6,6 @@ use crate::effect::no_packet;
 use crate::effect::one_packet;
 use crate::effect::sending;
 use crate::effect::two_packets;
-use crate::holders::is_shared;
 use crate::leaving::machine_of;
 use model::Address;
 use model::Agent;
@@ -21,6 +17,10 @@ use model::Message;
 use model::Mode;
 use model::Owner;
 use model::Packet;
+use parts::blank::new_agent;
+use parts::blank::plain_packet;
+use parts::blank::seat;
+use parts::holders::is_shared;
 ghost use mathlib.Core.Path.{_≡_};
 ghost use mathlib.Core.Bool.{Bool, true, false, _&&_};
 ghost use mathlib.Core.List.{List, [], _∷_};

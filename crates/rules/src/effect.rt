@@ -1,9 +1,4 @@
 // What a rule says of a step, as the model's verdict does: that it cannot be placed, or all that it writes and sends.
-use crate::blank::blank_packet;
-use crate::blank::empty_queue;
-use crate::blank::no_agent;
-use crate::state::agent_at;
-use crate::state::status_at;
 use model::AgentSlot;
 use model::ClientId;
 use model::Decider;
@@ -13,6 +8,11 @@ use model::Owner;
 use model::Packet;
 use model::Queue;
 use model::Status;
+use parts::blank::blank_packet;
+use parts::blank::empty_queue;
+use parts::blank::no_agent;
+use parts::state::agent_at;
+use parts::state::status_at;
 ghost use mathlib.Core.Path.{_≡_};
 ghost use mathlib.Core.List.{[], _∷_, map};
 ghost use Rattle.model.specs.States.{waiters};

@@ -1,12 +1,8 @@
 // A rule's effect judged, and carried out. Rules only say what a step does; the state is written here and nowhere else, so that it is copied for an
 // accepted step, and not for each rule on the way or for a refusal.
-use crate::blank::plain_packet;
 use crate::effect::Effect;
 use crate::effect::Sends;
 use crate::effect::cannot_place;
-use crate::state::put_agent;
-use crate::state::put_status;
-use crate::wire::take_off;
 use model::Address;
 use model::Answer;
 use model::LockState;
@@ -16,6 +12,10 @@ use model::Packet;
 use model::Refusal;
 use model::Waiter;
 use model::Wire;
+use parts::blank::plain_packet;
+use parts::state::put_agent;
+use parts::state::put_status;
+use parts::wire::take_off;
 ghost use mathlib.Core.Path.{_≡_};
 ghost use mathlib.Core.List.{[], _∷_, _++_, map};
 ghost use Prim.Native.Nat.{_+_, _≤_};
@@ -124,11 +124,11 @@ fn apply(e: Effect, rest: Wire, s: LockState) -> LockState
     }
 }
 
-// A step before it is made: its answer and, where that accepts, the place of the packet that it takes off the wire and its effect. A place past the
+// A step before it is made: its answer and, where that accepts, the index of the packet that it takes off the wire and its effect. An index past the
 // wire's end takes none off.
 pub struct Plan {
     pub answer: Answer,
-    pub place: u8,
+    pub index: u8,
     pub effect: Effect,
 }
 
@@ -142,7 +142,7 @@ pub fn judge(e: Effect, i: u8, n: u8) -> Plan
         if n + k <= 33 {
             Plan {
                 answer: Answer::Accepted,
-                place: i,
+                index: i,
                 effect: e,
             }
         } else {
@@ -159,7 +159,7 @@ pub fn refuse(n: Refusal) -> Plan
     let e = cannot_place();
     Plan {
         answer: Answer::Refused(n),
-        place: 33,
+        index: 33,
         effect: e,
     }
 }
@@ -169,5 +169,5 @@ pub fn carry_out(p: Plan, s: LockState) -> LockState
     requires { ⌜ (CanonicalWire (s .wire)) × (length (leftBy p s) + length (sentBy (p .effect .sends)) ≤ 33) ⌝ }
     ensures { λ r. ⌜ r ≡ carriedOut p s ⌝ }
 {
-    apply(p.effect, take_off(s.wire, p.place), s)
+    apply(p.effect, take_off(s.wire, p.index), s)
 }

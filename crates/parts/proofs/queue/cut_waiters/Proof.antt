@@ -1,0 +1,42 @@
+use Rattle.parts.proofs.Base.{_≡_, _∙_, _-_, _<_, arith, length, length-set, needs, blankWaiter, cutUsed, cutUsed-step, cutUsed-last}
+use Rattle.parts.proofs.queue.cut_waiters.Statement.{statement}
+use Rattle.parts.proofs.queue.cut_waiters.Tie as tie
+
+abbrev Inv-loop : tie.InvT-loop
+Inv-loop n b₀ j₀ b j = (cutUsed b j n blankWaiter ≡ cutUsed b₀ j₀ n blankWaiter) × ((length b ≡ 16) × (j < n))
+
+abbrev μ-loop : tie.MeasureT-loop
+μ-loop n b₀ j₀ b j = n - j
+
+loop-again : tie.Need-loop-again Inv-loop μ-loop
+loop-again c =
+    let l = c .before .before .loop in
+    let s = c .before .before .before in
+    (cutUsed-step (l .b) (l .j) (s .args .n) blankWaiter _ (omega arith) (omega arith) ∙ l .inv .0, (length-set (l .b) (l .j) _ ∙ l .inv .1 .0, omega arith))
+
+returns : tie.Need-returns Inv-loop μ-loop
+returns c =
+    let l = c .before .before .loop in
+    let s = c .before .before .before in
+    rw (c .blank-waiter .ensures) (cutUsed-last (l .b) (l .j) (s .args .n) blankWaiter (omega arith) (omega arith)) ∙ l .inv .0
+
+pub cut-waiters-spec : {M : Type 1} → statement M
+cut-waiters-spec =
+    tie.close
+    (tie.spec
+    Inv-loop
+    μ-loop
+    (λ c. search needs)
+    (λ c. search needs)
+    (λ c. search needs)
+    (λ c. search needs)
+    (λ c. search needs)
+    (λ c. search needs)
+    (λ c. search needs)
+    (λ c. search needs)
+    (λ c. search needs)
+    loop-again
+    (λ c κs. search needs)
+    (λ c. search needs)
+    (λ c. search needs)
+    returns)

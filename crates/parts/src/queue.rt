@@ -1,0 +1,121 @@
+// A queue of waiters, in the first slots of an array.
+use crate::blank::blank_waiter;
+use model::Agent;
+use model::ClientId;
+use model::Queue;
+use model::Waiter;
+ghost use mathlib.Core.Path.{_≡_};
+ghost use mathlib.Core.List.{[], _∷_, _++_};
+ghost use Prim.Native.Nat.{_<_, _≤_};
+ghost use lib.ListN.{take, getD};
+ghost use Rattle.model.specs.Lists.{any, removed};
+ghost use Rattle.model.specs.States.{blankWaiter, queueOf, waiters};
+ghost use Rattle.model.specs.WellFormed.{isClient};
+ghost use Rattle.model.specs.Asking.{noRoom};
+ghost use Rattle.laws.specs.Shapes.{CanonicalQueue};
+ghost use Rattle.parts.specs.Arrays.{cutUsed, slid};
+
+pub fn push(mut q: Queue, w: Waiter) -> Queue
+    requires { ⌜ (CanonicalQueue q) × (q .len < 16) ⌝ }
+    ensures { λ r. ⌜ r ≡ queueOf (waiters q ++ w ∷ []) ⌝ }
+{
+    let n = q.len;
+    let j = n as usize;
+    q.slots[j] = w;
+    q.len = n + 1;
+    q
+}
+
+pub fn first(q: Queue) -> Waiter
+    requires { ⌜ (CanonicalQueue q) × (0 < q .len) ⌝ }
+    ensures { λ r. ⌜ r ≡ getD (waiters q) 0 blankWaiter ⌝ }
+{
+    q.slots[0]
+}
+
+// The first of n waiters is out, the others move up, and the freed slot is blank.
+pub fn cut_waiters(a: [Waiter; 16], n: usize) -> [Waiter; 16]
+    requires { ⌜ (0 < n) × (n ≤ 16) ⌝ }
+    ensures { λ r. ⌜ r ≡ cutUsed a 0 n blankWaiter ⌝ }
+{
+    let mut b = a;
+    let mut j: usize = 0;
+    while j + 1 < n {
+        b[j] = b[j + 1];
+        j += 1;
+    }
+    b[j] = blank_waiter();
+    b
+}
+
+// The queue without its first waiter.
+pub fn pop(q: Queue) -> Queue
+    requires { ⌜ (CanonicalQueue q) × (0 < q .len) ⌝ }
+    ensures { λ r. ⌜ r ≡ queueOf (removed (waiters q) 0) ⌝ }
+{
+    let a = q.slots;
+    let n = q.len;
+    let b = cut_waiters(a, n as usize);
+    Queue {
+        slots: b,
+        len: n - 1,
+    }
+}
+
+// The first n waiters move down by one, and w stands before them.
+pub fn slide_waiters(a: [Waiter; 16], n: usize, w: Waiter) -> [Waiter; 16]
+    requires { ⌜ n < 16 ⌝ }
+    ensures { λ r. ⌜ r ≡ slid a n w ⌝ }
+{
+    let mut b = a;
+    let mut j = n;
+    while 0 < j {
+        b[j] = b[j - 1];
+        j -= 1;
+    }
+    b[0] = w;
+    b
+}
+
+pub fn push_front(q: Queue, w: Waiter) -> Queue
+    requires { ⌜ (CanonicalQueue q) × (q .len < 16) ⌝ }
+    ensures { λ r. ⌜ r ≡ queueOf (w ∷ waiters q) ⌝ }
+{
+    let a = q.slots;
+    let n = q.len;
+    let b = slide_waiters(a, n as usize, w);
+    Queue {
+        slots: b,
+        len: n + 1,
+    }
+}
+
+pub fn waiting_in(a: [Waiter; 16], n: usize, c: ClientId) -> bool
+    requires { ⌜ n ≤ 16 ⌝ }
+    ensures { λ r. ⌜ r ≡ any (isClient c) (take n a) ⌝ }
+{
+    let mut j: usize = 0;
+    while j < n {
+        let w = a[j];
+        if w.client.0 == c.0 {
+            return true;
+        }
+        j += 1;
+    }
+    false
+}
+
+// The agent's queue cannot take the client: it stands there already, or the queue is full.
+pub fn no_room(a: Agent, c: ClientId) -> bool
+    requires { ⌜ CanonicalQueue (a .queue) ⌝ }
+    ensures { λ r. ⌜ r ≡ noRoom a c ⌝ }
+{
+    let q = a.queue;
+    let slots = q.slots;
+    let n = q.len as usize;
+    if waiting_in(slots, n, c) {
+        true
+    } else {
+        16 <= n
+    }
+}

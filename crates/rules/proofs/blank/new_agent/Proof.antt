@@ -1,9 +1,0 @@
-use Rattle.rules.proofs.Base.{needs}
-use Rattle.rules.proofs.blank.new_agent.Statement.{statement}
-use Rattle.rules.proofs.blank.new_agent.Tie as tie
-
-returns : tie.Need-returns
-returns c = rw (c .empty-queue .ensures)
-
-pub new-agent-spec : {M : Type 1} → statement M
-new-agent-spec = tie.close (tie.spec (λ c κs. search needs) returns)

@@ -1,9 +1,0 @@
-use Rattle.rules.proofs.Base.{needs}
-use Rattle.rules.proofs.blank.plain_packet.Statement.{statement}
-use Rattle.rules.proofs.blank.plain_packet.Tie as tie
-
-returns : tie.Need-returns
-returns c = rw (c .no-agent .ensures)
-
-pub plain-packet-spec : {M : Type 1} → statement M
-plain-packet-spec = tie.close (tie.spec (λ c κs. search needs) returns)

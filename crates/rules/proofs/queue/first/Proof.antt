@@ -1,9 +1,0 @@
-use Rattle.rules.proofs.Base.{needs, waiter-is}
-use Rattle.rules.proofs.queue.first.Statement.{statement}
-use Rattle.rules.proofs.queue.first.Tie as tie
-
-returns : tie.Need-returns
-returns c = waiter-is (c .before .args .t1) 0 _ (c .before .pre .0) (c .before .pre .1)
-
-pub first-spec : {M : Type 1} → statement M
-first-spec = tie.close (tie.spec (λ c. search needs) returns)

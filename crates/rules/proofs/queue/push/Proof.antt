@@ -1,9 +1,0 @@
-use Rattle.rules.proofs.Base.{needs, queued-at}
-use Rattle.rules.proofs.queue.push.Statement.{statement}
-use Rattle.rules.proofs.queue.push.Tie as tie
-
-returns : tie.Need-returns
-returns c = queued-at (c .args .t1) (c .args .w) (c .pre .0) (c .pre .1)
-
-pub push-spec : {M : Type 1} → statement M
-push-spec = tie.close (tie.spec (λ c. search needs) (λ c. search needs) (λ c. search needs) (λ c. search needs) returns)
