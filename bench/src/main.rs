@@ -18,7 +18,6 @@ extern "C" {
 
 const ROUNDS: usize = 9;
 const DRAINS: u32 = 2_000;
-const COPIES: usize = 20_000;
 /// The sizes of the engine's states, which its functions take and give by value.
 const LOCK_BYTES: usize = 2_192;
 const CLUSTER_BYTES: usize = 17_536;
@@ -86,31 +85,25 @@ fn row(name: &str, best: (f64, f64), units: f64) {
     println!("| {name} | {ours:.0} | {theirs:.0} | {:.2} |", ours / theirs);
 }
 
-fn run_of(bytes: &[u8], times: u32) -> (f64, f64) {
-    race(
-        || {
-            black_box(unsafe { domezatsy_replays(bytes.as_ptr(), bytes.len(), times) });
-        },
-        || {
-            for _ in 0..times {
-                black_box(Cluster::new().run_transcript(bytes));
-            }
-        },
-    )
+fn engine_runs(bytes: &[u8], times: u32) {
+    black_box(unsafe { domezatsy_replays(bytes.as_ptr(), bytes.len(), times) });
 }
 
-fn calls_of(bytes: &[u8]) -> (f64, f64) {
-    race(
-        || {
-            black_box(unsafe { domezatsy_calls(bytes.as_ptr(), bytes.len()) });
-        },
-        || {
-            let mut cluster = Cluster::new();
-            for record in Records::new(bytes) {
-                let _ = black_box(record.expect("a good record").run(&mut cluster));
-            }
-        },
-    )
+fn reference_runs(bytes: &[u8], times: u32) {
+    for _ in 0..times {
+        black_box(Cluster::new().run_transcript(bytes));
+    }
+}
+
+fn engine_calls(bytes: &[u8]) {
+    black_box(unsafe { domezatsy_calls(bytes.as_ptr(), bytes.len()) });
+}
+
+fn reference_calls(bytes: &[u8]) {
+    let mut cluster = Cluster::new();
+    for record in Records::new(bytes) {
+        let _ = black_box(record.expect("a good record").run(&mut cluster));
+    }
 }
 
 fn drains_of(bytes: &[u8], cluster: &Cluster) -> (f64, f64) {
@@ -126,19 +119,13 @@ fn drains_of(bytes: &[u8], cluster: &Cluster) -> (f64, f64) {
     )
 }
 
-/// What passing a state by value costs by itself: so many bytes copied into a call and out of it.
-fn copies_of(size: usize) -> f64 {
+/// What passing a state by value costs by itself: so many bytes copied into a call and out of it, so many times.
+fn copies(size: usize, times: usize) {
     let (mut state, mut passed) = (vec![0u8; size], vec![0u8; size]);
-    let mut best = f64::MAX;
-    for _ in 0..ROUNDS {
-        let start = Instant::now();
-        for _ in 0..COPIES {
-            black_box(&mut passed).copy_from_slice(black_box(&state));
-            black_box(&mut state).copy_from_slice(black_box(&passed));
-        }
-        best = best.min(start.elapsed().as_nanos() as f64);
+    for _ in 0..times {
+        black_box(&mut passed).copy_from_slice(black_box(&state));
+        black_box(&mut state).copy_from_slice(black_box(&passed));
     }
-    best
 }
 
 /// The two programs agree on where the transcript leads before anything is measured.
@@ -163,20 +150,24 @@ fn main() {
     let (mut cluster, _) = checked(&busy);
     println!("| work | engine, ns | reference, ns | ratio |");
     println!("|---|---|---|---|");
-    row(&format!("a step inside a run of {short_records}"), run_of(&short, 20), 20.0 * short_records);
-    let steps = run_of(&full, 2);
-    row(&format!("a step inside a run of {full_records}"), steps, 2.0 * full_records);
-    let calls = calls_of(&short);
+    let runs = race(|| engine_runs(&short, 20), || reference_runs(&short, 20));
+    row(&format!("a step inside a run of {short_records}"), runs, 20.0 * short_records);
+    let runs = race(|| engine_runs(&full, 2), || reference_runs(&full, 2));
+    row(&format!("a step inside a run of {full_records}"), runs, 2.0 * full_records);
+    let calls = race(|| engine_calls(&short), || reference_calls(&short));
     row("a public call, two locks in use", calls, short_records);
-    row("a public call, all locks in use", calls_of(&all_locks), all_records);
-    row("a full-size transcript", run_of(&full, 1), 1.0);
-    let best = drains_of(&busy, &cluster);
-    let drained = cluster.drain(LockId(0)).expect("a drain ends");
-    row(&format!("a drain of {drained} steps"), best, f64::from(DRAINS));
+    let calls = race(|| engine_calls(&all_locks), || reference_calls(&all_locks));
+    row("a public call, all locks in use", calls, all_records);
+    let runs = race(|| engine_runs(&full, 1), || reference_runs(&full, 1));
+    row("a full-size transcript", runs, 1.0);
+    let drains = drains_of(&busy, &cluster);
+    let steps = cluster.drain(LockId(0)).expect("a drain ends");
+    row(&format!("a drain of {steps} steps"), drains, f64::from(DRAINS));
     println!();
     println!("| what passing by value costs by itself | ns | the reference's whole work, ns | ratio |");
     println!("|---|---|---|---|");
-    let copies = COPIES as f64;
-    row("a lock's state, in and out of a step", (copies_of(LOCK_BYTES) / copies, steps.1 / (2.0 * full_records)), 1.0);
-    row("a cluster, in and out of a public call", (copies_of(CLUSTER_BYTES) / copies, calls.1 / short_records), 1.0);
+    let lock = race(|| copies(LOCK_BYTES, full_records as usize), || reference_runs(&full, 1));
+    row("a lock's state, into a step and out of it", lock, full_records);
+    let cluster = race(|| copies(CLUSTER_BYTES, short_records as usize), || reference_calls(&short));
+    row("a cluster, into a public call and out of it", cluster, short_records);
 }
