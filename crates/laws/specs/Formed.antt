@@ -8,24 +8,19 @@ use lib.ListN.{length, take, drop, getD, replicate, length-drop, take-append-dro
 use lib.Seq.{length-take-le}
 use lib.Dec.{eqb, leb}
 use borrow.Author.Tests.{eqb-true, leb-true, not-true}
-use Rattle.model.specs.Lists.{all, padded, removed}
+use Rattle.model.specs.Lists.{all, padded}
 use Rattle.laws.specs.Names.{LockId, MachineId, Mode, Exclusive, Shared, Address, ToDecider, ToMachine, Message, Free, Acquire, Grant, Release, Waiter, Queue, Agent, AgentSlot, Packet, Wire, LockState, Cluster}
-use Rattle.model.specs.States.{blankPacket, blankWaiter, wireOf, packets, agentOn, noAgent, newAgent, queueOf, noHolders, isShared, freshLock, lockIn}
+use Rattle.model.specs.States.{blankPacket, blankWaiter, packets, agentOn, noAgent, newAgent, queueOf, noHolders, isShared, freshLock, lockIn}
 use Rattle.model.specs.WellFormed.{shaped, isBlankWaiter, distinct, queueFormed, agentFormed, isBlankAgent, slotBy, slotFormed, isFree, toDecider, isBlankPacket, messageFormed, addressInRange, packetFormed, wireFormed, ownerInRange, lockFormed, wellFormed}
 use Rattle.model.specs.Calls.{packetAt}
 use Rattle.laws.specs.Tests.{and-left, and-right}
-use Rattle.laws.specs.Lists.{length-removed, all-at, all-getD, all-same, Canonical}
-use Rattle.laws.specs.Shapes.{CanonicalWire, CanonicalQueue, canonical-wire, length-packets}
+use Rattle.laws.specs.Lists.{all-at, all-getD, all-same, Canonical}
+use Rattle.laws.specs.Shapes.{CanonicalWire, CanonicalQueue}
 
 pub record Ready (s : LockState) : Type 0 where
   pub wire : CanonicalWire (s .wire)
   pub agents : (k : MachineId) → CanonicalQueue (agentOn s k .agent .queue)
   pub carried : (i : ℕ) → i < length (packets (s .wire)) → CanonicalQueue (getD (packets (s .wire)) i blankPacket .carried .agent .queue)
-
--- the wire that is left is in its one form
-pub rest-canonical : (w : Wire) (i : ℕ) (rest : Wire) → CanonicalWire w → i < w .len → rest ≡ wireOf (removed (packets w) i) → CanonicalWire rest
-rest-canonical w i rest h k e =
-    rw e (canonical-wire (removed (packets w) i) (omega (arith, length-removed (packets w) i (omega (arith, length-packets w h)), length-packets w h, h .short)))
 
 exclusive-of : (m : Mode) → not (isShared m) ≡ true → m ≡ Exclusive
 exclusive-of Exclusive e = refl

@@ -48,7 +48,7 @@ module _ (a : List Packet) (n k : ℕ) (p q : Packet) where
   pub lays-one : k ≡ 1 → set a n p ≡ sets a n (take k (p ∷ q ∷ []))
   lays-one e = rw e
 
-pub sets-append : (a : List Packet) (n : ℕ) (ps qs : List Packet) → sets (sets a n ps) (n + length ps) qs ≡ sets a n (ps ++ qs)
+sets-append : (a : List Packet) (n : ℕ) (ps qs : List Packet) → sets (sets a n ps) (n + length ps) qs ≡ sets a n (ps ++ qs)
 sets-append a n [] qs = let e : n + 0 ≡ n = omega arith in rw e
 sets-append a n (p ∷ ps) qs =
     let e : n + suc (length ps) ≡ suc n + length ps = omega arith in
@@ -58,7 +58,7 @@ abbrev sentTo : Wire → Packet → Wire
 sentTo w p = record { slots = set (w .slots) (w .len) p; len = w .len + 1 }
 
 -- on a wire's slots that is sending them
-pub posted : (w : Wire) (ps : List Packet) → CanonicalWire w → w .len + length ps ≤ 33
+posted : (w : Wire) (ps : List Packet) → CanonicalWire w → w .len + length ps ≤ 33
     → record { slots = sets (w .slots) (w .len) ps; len = w .len + length ps } ≡ wireOf (packets w ++ ps)
 posted w [] h k = let e : w .len + 0 ≡ w .len = omega arith in rw (e, append-nil) (wire-whole w h)
 posted w (p ∷ ps) h k =
