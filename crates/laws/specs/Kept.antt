@@ -8,14 +8,14 @@ use lib.ListN.{length, set, length-append, length-set}
 use lib.Dec.{leb}
 use borrow.Author.Tests.{eq-eqb, lt-ltb, leb-true, leb-false}
 use Rattle.model.specs.Lists.{pick, any, all, removed}
-use Rattle.laws.specs.Names.{MachineId, ClientId, Mode, Exclusive, Shared, Owner, Unowned, Owned, Waiter, Agent, AgentSlot, Address, ToDecider, ToMachine, Message, Free, Acquire, Grant, Release, Packet, Status, Idle, LockState, WireFull}
-use Rattle.model.specs.States.{queueOf, waiters, packets, seated, newAgent, agentOn, machineOf, isShared}
+use Rattle.laws.specs.Names.{MachineId, ClientId, Mode, Exclusive, Shared, Owner, Unowned, Owned, Waiter, Agent, AgentSlot, Address, ToDecider, ToMachine, Message, Free, Acquire, Grant, Release, Packet, Idle, Waiting, Site, LockState, WireFull}
+use Rattle.model.specs.States.{queueOf, waiters, packets, seated, newAgent, machineOf, isShared}
 use Rattle.model.specs.WellFormed.{clientInRange, ownerInRange, addressInRange, isClient, waiterInRange, slotFormed, messageFormed, packetFormed, lockFormed}
-use Rattle.model.specs.Changes.{Change, Verdict, cannot-place, does, apply, accepted, refused, finish, machine0, client0, deciding, seating, telling, seatingTelling}
-use Rattle.model.specs.Asking.{changed, queuing, noRoom, withRoom, mayJoin, asks, acquires, anyHolder, without, handOver, slotLeft, sendsLeft, leaves, lists, releases}
+use Rattle.model.specs.Changes.{siteOf, withDecider, withSlot, withStatus, Verdict, cannot-place, does, apply, accepted, refused, finish}
+use Rattle.model.specs.Asking.{changed, queuing, noRoom, withRoom, mayJoin, asks, acquires, anyHolder, without, handOver, staysIf, leaves, lists, releases}
 use Rattle.model.specs.AtDecider.{toOwner, granting, mayShare, decidesAcquire, current, decidesFree, decidesGrant, decides, atDecider}
 use Rattle.model.specs.AtMachine.{bounces, ofMode, admitted, staying, joined, grantOf, requeued, installs, granted, marked, unmarked, acquired, released, returned, arrives, atMachine}
-use Rattle.model.specs.Calls.{delivers, packetAt, acquireStep, releaseStep, deliverStep}
+use Rattle.model.specs.Calls.{delivers, packetAt, acquireStep, releaseStep, takes, deliverStep}
 use Rattle.laws.specs.Tests.{and-left, and-right, both, or-left, or-right, bool-cases}
 use Rattle.laws.specs.Lists.{all-append, all-removed, all-set, Sublist, empty, kept, left-out, whole, nothing, sublist-all}
 use Rattle.laws.specs.Formed.{Fit, fit, new-fit, no-agent-formed, Whole, Parts, parts, agent-on, packet-at}
@@ -33,26 +33,26 @@ sends-formed (more {p} w e) = both (packetFormed p) _ (packet-formed w) (sends-f
 -- ---- one law for every change
 pub data Sound : Verdict → Type 0 where
   refuses : Sound cannot-place
-  keeps : {ch : Change} → ownerInRange (ch .decider .owner) ≡ true → slotFormed (ch .slot) ≡ true → Sends (ch .sends) → Sound (does ch)
+  keeps : {v : Site} {qs : List Packet} → ownerInRange (v .decider .owner) ≡ true → slotFormed (v .slot) ≡ true → Sends qs → Sound (does v qs)
 
-pub kept-by : (s : LockState) (ch : Change) (rest : List Packet) → Parts s → all packetFormed rest ≡ true → Sound (does ch) → length rest + length (ch .sends) ≤ 33
-    → lockFormed (apply ch rest s) ≡ true
-unfolding lockFormed
-kept-by s ch rest f g (keeps o x e) h =
-    let four : length (set (s .agents) (ch .machine .0) (ch .slot)) ≡ 4 = length-set (s .agents) _ _ ∙ f .four in
-    let sixteen : length (set (s .clients) (ch .client .0) (record { status = ch .status })) ≡ 16 = length-set (s .clients) _ _ ∙ f .sixteen in
-    rw (o, eq-eqb _ 4 four, all-set slotFormed (s .agents) (ch .machine .0) (ch .slot) (f .agents) x, eq-eqb _ 16 sixteen)
-    (wire-formed (rest ++ ch .sends) (all-append packetFormed rest (ch .sends) g (sends-formed e)) (omega (arith, length-append rest (ch .sends))))
+module _ (s : LockState) (k : MachineId) (c : ClientId) where
+  pub kept-by : (v : Site) (qs rest : List Packet) → Parts s → all packetFormed rest ≡ true → Sound (does v qs) → length rest + length qs ≤ 33
+      → lockFormed (apply k c v qs rest s) ≡ true
+  unfolding lockFormed
+  kept-by v qs rest f g (keeps o x e) h =
+      let four : length (set (s .agents) (k .0) (v .slot)) ≡ 4 = length-set (s .agents) _ _ ∙ f .four in
+      let sixteen : length (set (s .clients) (c .0) (record { status = v .status })) ≡ 16 = length-set (s .clients) _ _ ∙ f .sixteen in
+      rw (o, eq-eqb _ 4 four, all-set slotFormed (s .agents) (k .0) (v .slot) (f .agents) x, eq-eqb _ 16 sixteen)
+      (wire-formed (rest ++ qs) (all-append packetFormed rest qs g (sends-formed e)) (omega (arith, length-append rest qs)))
 
-pub finish-formed : (s : LockState) (v : Verdict) (rest : List Packet) → lockFormed s ≡ true → all packetFormed rest ≡ true → Sound v
-    → lockFormed (finish v rest s .state) ≡ true
-unfolding finish
-finish-formed s cannot-place rest f g refuses = f
-finish-formed s (does ch) rest f g k = go (leb (length rest + length (ch .sends)) 33) refl
-  where
-    go : (b : Bool) → leb (length rest + length (ch .sends)) 33 ≡ b → lockFormed (pick b (accepted (apply ch rest s)) (refused WireFull s) .state) ≡ true
-    go true e = kept-by s ch rest (parts s f) g k (leb-true (length rest + length (ch .sends)) 33 e)
-    go false e = f
+  pub finish-formed : (w : Verdict) (rest : List Packet) → lockFormed s ≡ true → all packetFormed rest ≡ true → Sound w → lockFormed (finish k c w rest s .state) ≡ true
+  unfolding finish
+  finish-formed cannot-place rest f g refuses = f
+  finish-formed (does v qs) rest f g q = go (leb (length rest + length qs) 33) refl
+    where
+      go : (b : Bool) → leb (length rest + length qs) 33 ≡ b → lockFormed (pick b (accepted (apply k c v qs rest s)) (refused WireFull s) .state) ≡ true
+      go true e = kept-by v qs rest (parts s f) g q (leb-true (length rest + length qs) 33 e)
+      go false e = f
 
 -- a rule that chooses by a test
 choice : (b : Bool) {v w : Verdict} → (b ≡ true → Sound v) → (b ≡ false → Sound w) → Sound (pick b v w)
@@ -110,28 +110,35 @@ unfolding messageFormed
 free-carries b true t e = and-left b _ e
 free-carries b false t e = and-left b _ e
 
--- ---- the rules, clause by clause
-module _ (s : LockState) (f : Parts s) where
-  -- no agent is written
-  sound-sends : {c : ClientId} {st : Status} {ps : List Packet} → Sends ps → Sound (does (telling s c st ps))
-  sound-sends e = keeps (f .owner) (agent-on f machine0) e
+-- ---- the rules, clause by clause: of a site that is well formed
+pub record Set (v : Site) : Type 0 where
+  pub owner : ownerInRange (v .decider .owner) ≡ true
+  pub slot : slotFormed (v .slot) ≡ true
 
-  module _ (k : MachineId) (a : Agent) (q : Fit a) (c : ClientId) (m : Mode) (h : clientInRange c ≡ true) where
+site-set : {s : LockState} → Parts s → (k : MachineId) (c : ClientId) → Set (siteOf s k c)
+site-set f k c = record { owner = f .owner; slot = agent-on f k }
+
+module _ (v : Site) (f : Set v) where
+  -- nothing but packets and a status
+  sound-sends : {qs : List Packet} → Sends qs → Sound (does v qs)
+  sound-sends e = keeps (f .owner) (f .slot) e
+
+  module _ (a : Agent) (q : Fit a) (c : ClientId) (m : Mode) (h : clientInRange c ≡ true) where
     -- the queue becomes ws, where there is room for the client
-    sound-queue : (ws : List Waiter) (d : ClientId) (st : Status) → (any (isClient c) (waiters (a .queue)) ≡ false → length (waiters (a .queue)) < 16 → Line ws)
-        → Sound (withRoom a c (seatingTelling s k (seated (changed a (a .holders) (queueOf ws) (a .incarnation))) d st []))
-    sound-queue ws d st g =
+    sound-queue : (ws : List Waiter) → (any (isClient c) (waiters (a .queue)) ≡ false → length (waiters (a .queue)) < 16 → Line ws)
+        → Sound (withRoom a c (does (withSlot v (seated (changed a (a .holders) (queueOf ws) (a .incarnation)))) []))
+    sound-queue ws g =
         let old = any (isClient c) (waiters (a .queue)) in
         choice (noRoom a c) (λ e. refuses)
         (λ e. keeps (f .owner) (seated-formed (record { sixteen = q .sixteen; queue = queue-formed (g (or-left old _ e) (leb-false 16 _ (or-right old _ e))) })) none)
 
-    sound-queuing : (d : ClientId) (st : Status) → Sound (withRoom a c (seatingTelling s k (seated (queuing a c m)) d st []))
-    sound-queuing d st = sound-queue _ d st (line-end (line (a .queue) (q .queue)) (record { client = c; mode = m }) h)
+    sound-queuing : Sound (withRoom a c (does (withSlot v (seated (queuing a c m))) []))
+    sound-queuing = sound-queue _ (line-end (line (a .queue) (q .queue)) (record { client = c; mode = m }) h)
 
-    sound-requeued : Sound (withRoom a c (seating s k (seated (requeued a c m)) []))
-    sound-requeued = sound-queue _ client0 _ (line-front (line (a .queue) (q .queue)) (record { client = c; mode = m }) h)
+    sound-requeued : Sound (withRoom a c (does (withSlot v (seated (requeued a c m))) []))
+    sound-requeued = sound-queue _ (line-front (line (a .queue) (q .queue)) (record { client = c; mode = m }) h)
 
-    sound-installs : Sound (does (installs s k c m a))
+    sound-installs : Sound (installs v c m a)
     unfolding installs
     sound-installs =
         let l = line (a .queue) (q .queue) in
@@ -139,84 +146,72 @@ module _ (s : LockState) (f : Parts s) where
         let n : length (joined (set (a .holders) (c .0) true) (admitted m ws)) ≡ 16 = length-joined (set (a .holders) (c .0) true) (admitted m ws) ∙ (length-set (a .holders) (c .0) true ∙ q .sixteen) in
         keeps (f .owner) (seated-formed (record { sixteen = n; queue = queue-formed (line-sublist (stay m ws) l) })) (grants-sent (admitted m ws) (sublist-all waiterInRange (leave m ws) (l .ranged)))
 
-  sound-leaves : (k : MachineId) (a : Agent) (c d : ClientId) (st : Status) → Fit a → Sound (does (leaves s k a c d st))
-  unfolding leaves
-  sound-leaves k a c d st q = go (anyHolder (without a c))
+  sound-leaves : (a : Agent) (c : ClientId) → Fit a → Sound (leaves v a c)
+  unfolding staysIf
+  sound-leaves a c q = go (anyHolder (without a c))
     where
-      go : (b : Bool) → Sound (does (seatingTelling s k (slotLeft b a (without a c)) d st (sendsLeft b a (without a c))))
+      go : (b : Bool) → Sound (staysIf b v a (without a c))
       go true = keeps (f .owner) (seated-formed (fit-holder q (c .0) false (a .incarnation))) none
       go false = keeps (f .owner) no-agent-formed (more (hand-over a (without a c) (waiters (a .queue)) (length-set (a .holders) (c .0) false ∙ q .sixteen) (line (a .queue) (q .queue))) none)
 
-  -- asking and handing back
-  sound-asks : (c : ClientId) (m : Mode) (b : Bool) (a : Agent) → clientInRange c ≡ true → Fit a → Sound (asks s c m b a)
-  unfolding asks messageFormed
-  sound-asks c m true a h q = choice (mayJoin a m) (λ e. keeps (f .owner) (seated-formed (fit-holder q (c .0) true (a .incarnation))) none) (λ e. sound-queuing (machineOf c) a q c m h c _)
-  sound-asks c m false a h q = sound-sends (more (plain (Acquire c m false) ToDecider (rw h) refl) none)
-
-  sound-releases : (c : ClientId) → clientInRange c ≡ true → Sound (releases s c)
-  unfolding releases messageFormed
-  sound-releases c h =
-      choice (lists (agentOn s (machineOf c)) c) (λ e. sound-leaves (machineOf c) _ c c Idle (fit _ (agent-on f (machineOf c))))
-      (λ e. sound-sends (more (plain (Release c) ToDecider (rw h) refl) none))
-
   -- at the decider: sent on, or granted with an agent
-  sound-to-owner : (o : Owner) (p : Packet) → Anywhere p → ownerInRange o ≡ true → Sound (toOwner o s p)
+  sound-to-owner : (o : Owner) (p : Packet) → Anywhere p → ownerInRange o ≡ true → Sound (toOwner o v p)
   unfolding toOwner
   sound-to-owner Unowned p w h = refuses
   sound-to-owner (Owned n k) p w h = sound-sends (more (w (ToMachine k) h) none)
 
   sound-granting : (c : ClientId) (m : Mode) (a : Agent) → clientInRange c ≡ true → Fit a
-      → Sound (does (deciding s (record { owner = Owned m (machineOf c); incarnation = 0 }) (granting c m a ∷ [])))
+      → Sound (does (withDecider v (record { owner = Owned m (machineOf c); incarnation = 0 })) (granting c m a ∷ []))
   unfolding messageFormed
   sound-granting c m a h q =
       let k = machine-in-range c h in
-      keeps k (agent-on f machine0) (more (record { message = both (clientInRange c) true h refl; address = k; carried = seated-formed q }) none)
+      keeps k (f .slot) (more (record { message = both (clientInRange c) true h refl; address = k; carried = seated-formed q }) none)
 
   sound-decides-acquire : (o : Owner) (p : Packet) (c : ClientId) (m : Mode) (g : Bool) → clientInRange c ≡ true → Anywhere p → ownerInRange o ≡ true
-      → Sound (decidesAcquire o s p c m g)
+      → Sound (decidesAcquire o v p c m g)
   unfolding decidesAcquire messageFormed
   sound-decides-acquire Unowned p c m false h w i = sound-granting c m (newAgent m) h (new-fit m)
   sound-decides-acquire (Owned n k) p c m false h w i =
       choice (mayShare (Owned n k) m)
-      (λ e. let g = both (clientInRange c) true h refl in keeps (f .owner) (agent-on f machine0)
+      (λ e. let g = both (clientInRange c) true h refl in keeps (f .owner) (f .slot)
       (more (plain (Grant c Shared) (ToMachine (machineOf c)) g (machine-in-range c h)) (more (plain (Acquire c Shared true) (ToMachine k) g i) none)))
       (λ e. sound-to-owner (Owned n k) p w i)
   sound-decides-acquire Unowned p c m true h w i = sound-to-owner Unowned p w i
   sound-decides-acquire (Owned n k) p c m true h w i = sound-to-owner (Owned n k) p w i
 
   -- at a machine
-  sound-bounces : (p : Packet) → Anywhere p → Sound (bounces s p)
+  sound-bounces : (p : Packet) → Anywhere p → Sound (bounces v p)
   sound-bounces p w = sound-sends (more (w ToDecider refl) none)
 
-  sound-granted : (k : MachineId) (here b r : Bool) (a : Agent) (c : ClientId) (m : Mode) → Fit a → clientInRange c ≡ true → Sound (granted s k here b r a c m)
+  sound-granted : (here b r : Bool) (a : Agent) (c : ClientId) (m : Mode) → Fit a → clientInRange c ≡ true → Sound (granted here b r v a c m)
   unfolding granted
-  sound-granted k here false r a c m q h = sound-sends none
-  sound-granted k true true r a c m q h = refuses
-  sound-granted k false true false a c m q h = sound-installs k a q c m h
-  sound-granted k false true true a c m q h = sound-requeued k a q c m h
+  sound-granted here false r a c m q h = keeps (f .owner) (f .slot) none
+  sound-granted true true r a c m q h = refuses
+  sound-granted false true false a c m q h = sound-installs a q c m h
+  sound-granted false true true a c m q h = sound-requeued a q c m h
 
-  sound-acquired : (k : MachineId) (here : Bool) (a : Agent) (p : Packet) (c : ClientId) (m : Mode) (g : Bool) → Fit a → clientInRange c ≡ true → Anywhere p
-      → Sound (acquired s k here a p c m g)
+  sound-acquired : (here : Bool) (a : Agent) (p : Packet) (c : ClientId) (m : Mode) (g : Bool) → Fit a → clientInRange c ≡ true → Anywhere p
+      → Sound (acquired here v a p c m g)
   unfolding acquired marked unmarked messageFormed
-  sound-acquired k false a p c m g q h w = sound-bounces p w
-  sound-acquired k true a p c m true q h w = choice (isShared (a .mode)) (λ e. keeps (f .owner) (seated-formed (fit-holder q (c .0) true _)) none) (λ e. refuses)
-  sound-acquired k true a p c m false q h w =
+  sound-acquired false a p c m g q h w = sound-bounces p w
+  sound-acquired true a p c m true q h w = choice (isShared (a .mode)) (λ e. keeps (f .owner) (seated-formed (fit-holder q (c .0) true _)) none) (λ e. refuses)
+  sound-acquired true a p c m false q h w =
       choice (mayJoin a m)
       (λ e. keeps (f .owner) (seated-formed (fit-holder q (c .0) true _)) (more (plain (Grant c m) ToDecider (rw h) refl) none))
-      (λ e. sound-queuing k a q c m h client0 _)
+      (λ e. sound-queuing a q c m h)
 
-  sound-released : (k : MachineId) (y : AgentSlot) (p : Packet) (c : ClientId) → Fit (y .agent) → Anywhere p → Sound (released s k y p c)
+  sound-released : (p : Packet) (c : ClientId) → Anywhere p → Sound (released v p c)
   unfolding released
-  sound-released k y p c q w = choice (lists y c) (λ e. sound-leaves k (y .agent) c client0 _ q) (λ e. sound-bounces p w)
+  sound-released p c w = choice (lists (v .slot) c) (λ e. sound-leaves (v .slot .agent) c (fit _ (f .slot))) (λ e. sound-bounces p w)
 
-  sound-returned : (k : MachineId) (here : Bool) (x : AgentSlot) → slotFormed x ≡ true → Sound (returned s k here x)
+  sound-returned : (here : Bool) (x : AgentSlot) → slotFormed x ≡ true → Sound (returned here v x)
   unfolding returned
-  sound-returned k true x h = refuses
-  sound-returned k false x h = keeps (f .owner) h none
+  sound-returned true x h = refuses
+  sound-returned false x h = keeps (f .owner) h none
 
   -- by the message, of a packet in its parts
   sound-decides-grant : (t : Address) (r b : Bool) (a : Agent) (c : ClientId) (m : Mode) (o : Owner) → slotFormed (record { present = b; agent = a }) ≡ true
-      → messageFormed (Grant c m) b r t ≡ true → ownerInRange o ≡ true → Sound (decidesGrant b o s (inParts (Grant c m) t r b a) c m)
+      → messageFormed (Grant c m) b r t ≡ true → ownerInRange o ≡ true → Sound (decidesGrant b o v (inParts (Grant c m) t r b a) c m)
   unfolding decidesGrant messageFormed
   sound-decides-grant t r false a c m o x e h =
       sound-sends (more (record { message = e; address = machine-in-range c (and-left (clientInRange c) _ e); carried = x }) none)
@@ -224,54 +219,71 @@ module _ (s : LockState) (f : Parts s) where
   sound-decides-grant t r true a c m (Owned n k) x e h =
       let i = and-left (clientInRange c) _ e in
       let q = fit _ x in
-      choice (current s (inParts (Grant c m) t r true a)) (λ y. sound-granting c m _ i (record { sixteen = q .sixteen; queue = q .queue }))
+      choice (current (v .decider) (inParts (Grant c m) t r true a)) (λ y. sound-granting c m _ i (record { sixteen = q .sixteen; queue = q .queue }))
       (λ y. sound-sends (more (record { message = rw i; address = h; carried = x }) none))
 
   sound-decides-free : (t : Address) (r b : Bool) (a : Agent) (o : Owner) → slotFormed (record { present = b; agent = a }) ≡ true → messageFormed Free b r t ≡ true
-      → ownerInRange o ≡ true → Sound (decidesFree o s (inParts Free t r b a))
+      → ownerInRange o ≡ true → Sound (decidesFree o v (inParts Free t r b a))
   unfolding decidesFree messageFormed
   sound-decides-free t r b a Unowned x e h = refuses
   sound-decides-free t r b a (Owned n k) x e h =
-      choice (current s (inParts Free t r b a)) (λ y. keeps refl (agent-on f machine0) none) (λ y. sound-sends (more (record { message = rw (free-carries b r t e); address = h; carried = x }) none))
+      choice (current (v .decider) (inParts Free t r b a)) (λ y. keeps refl (f .slot) none) (λ y. sound-sends (more (record { message = rw (free-carries b r t e); address = h; carried = x }) none))
 
   module _ (t : Address) (r b : Bool) (a : Agent) (x : slotFormed (record { present = b; agent = a }) ≡ true) where
-    sound-decides : (m : Message) (o : Owner) → messageFormed m b r t ≡ true → ownerInRange o ≡ true → Sound (decides m o s (inParts m t r b a))
+    sound-decides : (m : Message) (o : Owner) → messageFormed m b r t ≡ true → ownerInRange o ≡ true → Sound (decides m o v (inParts m t r b a))
     unfolding decides messageFormed
     sound-decides (Acquire c m g) o e h = sound-decides-acquire o _ c m g (and-left (clientInRange c) _ e) (λ t i. record { message = e; address = i; carried = x }) h
     sound-decides (Grant c m) o e h = sound-decides-grant t r b a c m o x e h
     sound-decides (Release c) o e h = sound-to-owner o _ (λ t i. record { message = e; address = i; carried = x }) h
     sound-decides Free o e h = sound-decides-free t r b a o x e h
 
-    sound-arrives : (m : Message) (k : MachineId) (y : AgentSlot) → messageFormed m b r t ≡ true → slotFormed y ≡ true → Sound (arrives m s k y (inParts m t r b a))
+    sound-arrives : (m : Message) → messageFormed m b r t ≡ true → Sound (arrives m v (inParts m t r b a))
     unfolding arrives messageFormed
-    sound-arrives (Acquire c m g) k y e h =
-        sound-acquired k (y .present) (y .agent) _ c m g (fit y h) (and-left (clientInRange c) _ e) (λ t i. record { message = e; address = i; carried = x })
-    sound-arrives (Grant c m) k y e h = sound-granted k (y .present) b r a c m (fit _ x) (and-left (clientInRange c) _ e)
-    sound-arrives (Release c) k y e h = sound-released k y _ c (fit y h) (λ t i. record { message = e; address = i; carried = x })
-    sound-arrives Free k y e h = sound-returned k (y .present) _ x
+    sound-arrives (Acquire c m g) e =
+        sound-acquired (v .slot .present) (v .slot .agent) _ c m g (fit _ (f .slot)) (and-left (clientInRange c) _ e) (λ t i. record { message = e; address = i; carried = x })
+    sound-arrives (Grant c m) e = sound-granted (v .slot .present) b r a c m (fit _ x) (and-left (clientInRange c) _ e)
+    sound-arrives (Release c) e = sound-released _ c (λ t i. record { message = e; address = i; carried = x })
+    sound-arrives Free e = sound-returned (v .slot .present) _ x
 
-  sound-delivers : (p : Packet) → Whole p → Sound (delivers (p .to) s p)
+  sound-delivers : (p : Packet) → Whole p → Sound (delivers (p .to) v p)
   unfolding delivers atDecider atMachine
   sound-delivers p w = go (p .to)
     where
-      go : (t : Address) → Sound (delivers t s p)
-      go ToDecider = sound-decides (p .to) (p .rejected) (p .carried .present) (p .carried .agent) (w .carried) (p .message) (s .decider .owner) (w .message) (f .owner)
-      go (ToMachine k) = sound-arrives (p .to) (p .rejected) (p .carried .present) (p .carried .agent) (w .carried) (p .message) k (agentOn s k) (w .message) (agent-on f k)
+      go : (t : Address) → Sound (delivers t v p)
+      go ToDecider = sound-decides (p .to) (p .rejected) (p .carried .present) (p .carried .agent) (w .carried) (p .message) (v .decider .owner) (w .message) (f .owner)
+      go (ToMachine k) = sound-arrives (p .to) (p .rejected) (p .carried .present) (p .carried .agent) (w .carried) (p .message) (w .message)
+
+-- asking and handing back
+sound-asks : (v : Site) (f : Set v) (c : ClientId) (m : Mode) (b : Bool) (a : Agent) → clientInRange c ≡ true → Fit a → Sound (asks v c m b a)
+unfolding asks messageFormed
+sound-asks v f c m true a h q =
+    choice (mayJoin a m) (λ e. keeps (f .owner) (seated-formed (fit-holder q (c .0) true (a .incarnation))) none)
+    (λ e. sound-queuing (withStatus v (Waiting m)) (record { owner = f .owner; slot = f .slot }) a q c m h)
+sound-asks v f c m false a h q = keeps (f .owner) (f .slot) (more (plain (Acquire c m false) ToDecider (rw h) refl) none)
+
+sound-releases : (v : Site) (f : Set v) (c : ClientId) → clientInRange c ≡ true → Sound (releases v c)
+unfolding releases messageFormed
+sound-releases v f c h =
+    choice (lists (v .slot) c) (λ e. sound-leaves (withStatus v Idle) (record { owner = f .owner; slot = f .slot }) _ c (fit _ (f .slot)))
+    (λ e. keeps (f .owner) (f .slot) (more (plain (Release c) ToDecider (rw h) refl) none))
 
 -- ---- the three steps
 pub acquire-formed : (s : LockState) (c : ClientId) (m : Mode) → c .0 < 16 → lockFormed s ≡ true → lockFormed (acquireStep s c m .state) ≡ true
 unfolding acquireStep acquires
 acquire-formed s c m h f =
     let p = parts s f in
-    finish-formed s _ (packets (s .wire)) f (p .packets) (sound-asks s p c m _ _ (lt-ltb (c .0) 16 h) (fit _ (agent-on p (machineOf c))))
+    let v = site-set p (machineOf c) c in
+    finish-formed s _ _ _ (packets (s .wire)) f (p .packets) (sound-asks _ v c m _ _ (lt-ltb (c .0) 16 h) (fit _ (v .slot)))
 
 pub release-formed : (s : LockState) (c : ClientId) → c .0 < 16 → lockFormed s ≡ true → lockFormed (releaseStep s c .state) ≡ true
 unfolding releaseStep
-release-formed s c h f = let p = parts s f in finish-formed s _ (packets (s .wire)) f (p .packets) (sound-releases s p c (lt-ltb (c .0) 16 h))
+release-formed s c h f =
+    let p = parts s f in
+    finish-formed s _ _ _ (packets (s .wire)) f (p .packets) (sound-releases _ (site-set p (machineOf c) c) c (lt-ltb (c .0) 16 h))
 
 pub deliver-formed : (s : LockState) (i : ℕ) → i < length (packets (s .wire)) → lockFormed s ≡ true → lockFormed (deliverStep s i .state) ≡ true
-unfolding deliverStep
+unfolding deliverStep takes
 deliver-formed s i h f =
     let p = parts s f in
-    finish-formed s _ (removed (packets (s .wire)) i) f (all-removed packetFormed (packets (s .wire)) i (p .packets))
-    (sound-delivers s p (packetAt s i) (packet-at p i h))
+    finish-formed s _ _ _ (removed (packets (s .wire)) i) f (all-removed packetFormed (packets (s .wire)) i (p .packets))
+    (sound-delivers _ (site-set p _ _) (packetAt s i) (packet-at p i h))

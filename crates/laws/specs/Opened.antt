@@ -8,13 +8,12 @@ use lib.Seq.{getD-set-same, getD-set-other}
 use lib.Dec.{eqb, leb}
 use borrow.Author.Tests.{eqb-true, leb-true, leb-false, not-false}
 use Rattle.model.specs.Lists.{pick, any, all, removed}
-use Rattle.laws.specs.Names.{LockId, MachineId, TaskId, Mode, Exclusive, Shared, Packet, Status, Idle, Waiting, Holding, LockState, Cluster, Call, AcquireCall, ReleaseCall, DeliverCall, Refusal, Malformed, WireFull, Answer, Accepted, Refused, Stepped, Outcome}
+use Rattle.laws.specs.Names.{LockId, MachineId, TaskId, ClientId, Mode, Exclusive, Shared, Packet, Status, Idle, Waiting, Holding, LockState, Cluster, Call, AcquireCall, ReleaseCall, DeliverCall, Refusal, Malformed, WireFull, Answer, Accepted, Refused, Stepped, Outcome}
 use Rattle.model.specs.States.{clientOf, modeOf, modeNumber, statusOf, packets, lockIn, freshLock}
 use Rattle.model.specs.WellFormed.{wellFormed}
 use Rattle.model.specs.Changes.{Verdict, cannot-place, does, apply, accepted, refused, finish}
-use Rattle.model.specs.Asking.{acquires, releases}
 use Rattle.model.specs.Refusals.{refusalNumber, Cause, _when_, first}
-use Rattle.model.specs.Calls.{isIdle, isHolding, names, delivers, packetAt, acquireStep, releaseStep, deliverStep, acquireCauses, releaseCauses, deliverCauses, refusing, settled, unless, acquire, release, deliver, perform}
+use Rattle.model.specs.Calls.{isIdle, isHolding, names, acquireStep, releaseStep, takes, deliverStep, acquireCauses, releaseCauses, deliverCauses, refusing, settled, unless, acquire, release, deliver, perform}
 use Rattle.laws.specs.Tests.{and-left, and-right}
 use Rattle.laws.specs.Formed.{eight}
 
@@ -128,20 +127,20 @@ perform-elsewhere (ReleaseCall l k t) x j n = unless-elsewhere (first (releaseCa
 perform-elsewhere (DeliverCall l i) x j n = unless-elsewhere (first (deliverCauses x l i)) x l _ j n
 
 -- a refused step leaves the state as it was
-finish-refused : (v : Verdict) (rest : List Packet) (s : LockState) (r : Refusal) → finish v rest s .answer ≡ Refused r → finish v rest s .state ≡ s
+finish-refused : (k : MachineId) (c : ClientId) (w : Verdict) (rest : List Packet) (s : LockState) (r : Refusal) → finish k c w rest s .answer ≡ Refused r → finish k c w rest s .state ≡ s
 unfolding finish
-finish-refused cannot-place rest s r e = refl
-finish-refused (does ch) rest s r e = go (leb (length rest + length (ch .sends)) 33) e
+finish-refused k c cannot-place rest s r e = refl
+finish-refused k c (does v qs) rest s r e = go (leb (length rest + length qs) 33) e
   where
-    go : (b : Bool) → pick b (accepted (apply ch rest s)) (refused WireFull s) .answer ≡ Refused r → pick b (accepted (apply ch rest s)) (refused WireFull s) .state ≡ s
+    go : (b : Bool) → pick b (accepted (apply k c v qs rest s)) (refused WireFull s) .answer ≡ Refused r → pick b (accepted (apply k c v qs rest s)) (refused WireFull s) .state ≡ s
     go true e = cc
     go false e = refl
 
 pub step-refused : (c : Call) (s : LockState) (r : Refusal) → stepOf c s .answer ≡ Refused r → stepOf c s .state ≡ s
-unfolding acquireStep releaseStep deliverStep
-step-refused (AcquireCall l k t m) s r e = finish-refused (acquires s (clientOf k t) (modeOf m)) (packets (s .wire)) s r e
-step-refused (ReleaseCall l k t) s r e = finish-refused (releases s (clientOf k t)) (packets (s .wire)) s r e
-step-refused (DeliverCall l i) s r e = finish-refused (delivers (packetAt s i .to) s (packetAt s i)) (removed (packets (s .wire)) i) s r e
+unfolding acquireStep releaseStep deliverStep takes
+step-refused (AcquireCall l k t m) s r e = finish-refused _ _ _ (packets (s .wire)) s r e
+step-refused (ReleaseCall l k t) s r e = finish-refused _ _ _ (packets (s .wire)) s r e
+step-refused (DeliverCall l i) s r e = finish-refused _ _ _ (removed (packets (s .wire)) i) s r e
 
 outcome-here : (c : Call) (x : Cluster) → lockOf c .0 < length (x .locks) → lockIn (outcomeOf c x .cluster) (lockOf c) ≡ stepOf c (lockIn x (lockOf c)) .state
 unfolding settled

@@ -5,10 +5,10 @@ use Prim.Native.Nat.{ℕ}
 use lib.ListN.{length, set}
 use lib.Dec.{leb}
 use Rattle.model.specs.Lists.{pick, any}
-use Rattle.model.specs.Names.{MachineId, ClientId, Mode, Waiter, Queue, Agent, AgentSlot, ToDecider, Message, Free, Acquire, Grant, Release, Packet, Status, Idle, Waiting, Holding, LockState}
-use Rattle.model.specs.States.{queueCapacity, queueOf, waiters, seated, noAgent, agentOn, listed, machineOf, packet, isShared}
+use Rattle.model.specs.Names.{ClientId, Mode, Waiter, Queue, Agent, AgentSlot, ToDecider, Message, Free, Acquire, Grant, Release, Packet, Idle, Waiting, Holding, Site}
+use Rattle.model.specs.States.{queueCapacity, queueOf, waiters, seated, noAgent, listed, packet, isShared}
 use Rattle.model.specs.WellFormed.{isClient}
-use Rattle.model.specs.Changes.{Change, Verdict, cannot-place, does, telling, seatingTelling}
+use Rattle.model.specs.Changes.{Verdict, cannot-place, does, withSlot, withStatus}
 
 -- the agent with other holders, queue and incarnation
 abbrev pub changed : Agent → List Bool → Queue → ℕ → Agent
@@ -26,8 +26,8 @@ queuing a c m = changed a (a .holders) (queueOf (waiters (a .queue) ++ record { 
 abbrev pub noRoom : Agent → ClientId → Bool
 noRoom a c = any (isClient c) (waiters (a .queue)) || leb queueCapacity (length (waiters (a .queue)))
 
-abbrev pub withRoom : Agent → ClientId → Change → Verdict
-withRoom a c ch = pick (noRoom a c) cannot-place (does ch)
+abbrev pub withRoom : Agent → ClientId → Verdict → Verdict
+withRoom a c w = pick (noRoom a c) cannot-place w
 
 -- agent and request are both shared
 abbrev pub mayJoin : Agent → Mode → Bool
@@ -35,16 +35,16 @@ mayJoin a m = isShared (a .mode) && isShared m
 
 -- **Acquire.** With an agent on the client's own machine: if agent and request are both shared, the client joins the holders and
 -- is holding at once; otherwise it joins the queue's end and is waiting. No packet is sent and no incarnation moves. With no such
--- agent: an unmarked ACQUIRE to the decider is sent; the client is waiting.
-unfoldable pub asks : LockState → ClientId → Mode → Bool → Agent → Verdict
-asks s c m true a =
+-- agent: an unmarked ACQUIRE to the decider is sent; the client is waiting. The Bool: the agent a is there.
+unfoldable pub asks : Site → ClientId → Mode → Bool → Agent → Verdict
+asks v c m true a =
     pick (mayJoin a m)
-    (does (seatingTelling s (machineOf c) (seated (joining a c)) c (Holding m) []))
-    (withRoom a c (seatingTelling s (machineOf c) (seated (queuing a c m)) c (Waiting m) []))
-asks s c m false a = does (telling s c (Waiting m) (packet (Acquire c m false) ToDecider ∷ []))
+    (does (withSlot (withStatus v (Holding m)) (seated (joining a c))) [])
+    (withRoom a c (does (withSlot (withStatus v (Waiting m)) (seated (queuing a c m))) []))
+asks v c m false a = does (withStatus v (Waiting m)) (packet (Acquire c m false) ToDecider ∷ [])
 
-unfoldable pub acquires : LockState → ClientId → Mode → Verdict
-acquires s c m = asks s c m (agentOn s (machineOf c) .present) (agentOn s (machineOf c) .agent)
+unfoldable pub acquires : Site → ClientId → Mode → Verdict
+acquires v c m = asks v c m (v .slot .present) (v .slot .agent)
 
 -- **Leaves if empty.** If no holder remains, the agent is taken off its machine. With an empty queue it goes inside a FREE to the
 -- decider. Otherwise the first waiter is popped and the agent goes inside a GRANT for that waiter, to the decider.
@@ -61,27 +61,22 @@ unfoldable pub handOver : Agent → List Bool → List Waiter → Packet
 handOver a hs [] = departing Free a hs []
 handOver a hs (w ∷ ws) = departing (Grant (w .client) (w .mode)) a hs ws
 
--- the machine's slot and the packet sent, by whether a holder remains among hs
-abbrev pub slotLeft : Bool → Agent → List Bool → AgentSlot
-slotLeft true a hs = seated (changed a hs (a .queue) (a .incarnation))
-slotLeft false a hs = noAgent
+-- the agent, with the holders hs of whom one remains or none, stays or leaves
+unfoldable pub staysIf : Bool → Site → Agent → List Bool → Verdict
+staysIf true v a hs = does (withSlot v (seated (changed a hs (a .queue) (a .incarnation)))) []
+staysIf false v a hs = does (withSlot v noAgent) (handOver a hs (waiters (a .queue)) ∷ [])
 
-abbrev pub sendsLeft : Bool → Agent → List Bool → List Packet
-sendsLeft true a hs = []
-sendsLeft false a hs = handOver a hs (waiters (a .queue)) ∷ []
-
--- the agent a of machine k removes the holder c; the status of d becomes st
-unfoldable pub leaves : LockState → MachineId → Agent → ClientId → ClientId → Status → Change
-leaves s k a c d st =
-    seatingTelling s k (slotLeft (anyHolder (without a c)) a (without a c)) d st (sendsLeft (anyHolder (without a c)) a (without a c))
+-- the agent removes the holder and leaves if empty
+abbrev pub leaves : Site → Agent → ClientId → Verdict
+leaves v a c = staysIf (anyHolder (without a c)) v a (without a c)
 
 -- **Release.** The client becomes idle. If its machine's agent lists it as a holder, the agent removes it and leaves if empty.
 -- Otherwise a RELEASE to the decider is sent.
 abbrev pub lists : AgentSlot → ClientId → Bool
 lists x c = x .present && listed (x .agent) c
 
-unfoldable pub releases : LockState → ClientId → Verdict
-releases s c =
-    pick (lists (agentOn s (machineOf c)) c)
-    (does (leaves s (machineOf c) (agentOn s (machineOf c) .agent) c c Idle))
-    (does (telling s c Idle (packet (Release c) ToDecider ∷ [])))
+unfoldable pub releases : Site → ClientId → Verdict
+releases v c =
+    pick (lists (v .slot) c)
+    (leaves (withStatus v Idle) (v .slot .agent) c)
+    (does (withStatus v Idle) (packet (Release c) ToDecider ∷ []))

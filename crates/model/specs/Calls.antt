@@ -5,10 +5,10 @@ use Prim.Native.Nat.{ℕ}
 use lib.ListN.{length, getD, set}
 use lib.Dec.{eqb, leb}
 use Rattle.model.specs.Lists.{any, removed}
-use Rattle.model.specs.Names.{LockId, MachineId, TaskId, ClientId, Mode, Address, ToDecider, ToMachine, Message, Free, Acquire, Grant, Release, Packet, Status, Idle, Waiting, Holding, LockState, Cluster, Call, AcquireCall, ReleaseCall, DeliverCall, Malformed, LockRange, MachineRange, TaskRange, ModeRange, NotIdle, StillNamed, NotHolding, IndexRange, Refusal, Answer, Accepted, Refused, Stepped, Outcome}
-use Rattle.model.specs.States.{locks, machines, tasks, clientOf, modeOf, statusOf, packets, blankPacket, lockIn, fresh}
+use Rattle.model.specs.Names.{LockId, MachineId, TaskId, ClientId, Mode, Address, ToDecider, ToMachine, Message, Free, Acquire, Grant, Release, Packet, Status, Idle, Waiting, Holding, LockState, Cluster, Call, AcquireCall, ReleaseCall, DeliverCall, Malformed, LockRange, MachineRange, TaskRange, ModeRange, NotIdle, StillNamed, NotHolding, IndexRange, Refusal, Answer, Accepted, Refused, Stepped, Outcome, Site}
+use Rattle.model.specs.States.{locks, machines, tasks, clientOf, machineOf, modeOf, statusOf, packets, blankPacket, lockIn, fresh}
 use Rattle.model.specs.WellFormed.{wellFormed}
-use Rattle.model.specs.Changes.{Verdict, finish}
+use Rattle.model.specs.Changes.{siteOf, Verdict, finish}
 use Rattle.model.specs.Asking.{acquires, releases}
 use Rattle.model.specs.AtDecider.{atDecider}
 use Rattle.model.specs.AtMachine.{atMachine}
@@ -35,23 +35,41 @@ abbrev pub names : ClientId → Packet → Bool
 names c p = messageNames c (p .message)
 
 -- A packet is delivered at the decider or at a machine, by its address.
-unfoldable pub delivers : Address → LockState → Packet → Verdict
-delivers ToDecider s p = atDecider s p
-delivers (ToMachine k) s p = atMachine s k p
+unfoldable pub delivers : Address → Site → Packet → Verdict
+delivers ToDecider v p = atDecider v p
+delivers (ToMachine k) v p = atMachine v p
+
+-- The machine that a delivery is about: the address's. At the decider no rule looks at it, so any will do.
+abbrev pub machineAt : Address → MachineId
+machineAt ToDecider = record { 0 = 0 }
+machineAt (ToMachine k) = k
+
+-- The client that it is about: the packet's. FREE names none, and its rules look at none.
+abbrev pub clientNamed : Message → ClientId
+clientNamed (Acquire c m g) = c
+clientNamed (Grant c m) = c
+clientNamed (Release c) = c
+clientNamed Free = record { 0 = 0 }
 
 -- Delivery takes a place counted from 0; later packets move up.
 abbrev pub packetAt : LockState → ℕ → Packet
 packetAt s i = getD (packets (s .wire)) i blankPacket
 
--- The steps on one lock's state: the rules, with refusals 9 and 10.
+-- The steps on one lock's state: the rules, with refusals 9 and 10. A client's own call is about its machine and itself.
 unfoldable pub acquireStep : LockState → ClientId → Mode → Stepped
-acquireStep s c m = finish (acquires s c m) (packets (s .wire)) s
+acquireStep s c m = finish (machineOf c) c (acquires (siteOf s (machineOf c) c) c m) (packets (s .wire)) s
 
 unfoldable pub releaseStep : LockState → ClientId → Stepped
-releaseStep s c = finish (releases s c) (packets (s .wire)) s
+releaseStep s c = finish (machineOf c) c (releases (siteOf s (machineOf c) c) c) (packets (s .wire)) s
+
+-- the packet p is taken off the wire, which keeps the rest
+unfoldable pub takes : LockState → Packet → List Packet → Stepped
+takes s p rest =
+    finish (machineAt (p .to)) (clientNamed (p .message))
+    (delivers (p .to) (siteOf s (machineAt (p .to)) (clientNamed (p .message))) p) rest s
 
 unfoldable pub deliverStep : LockState → ℕ → Stepped
-deliverStep s i = finish (delivers (packetAt s i .to) s (packetAt s i)) (removed (packets (s .wire)) i) s
+deliverStep s i = takes s (packetAt s i) (removed (packets (s .wire)) i)
 
 -- The order of tests is 11, 1, 2, 3, 4, 5, 6, 7, 8, 9, 10, each where its call has the thing.
 abbrev pub acquireCauses : Cluster → LockId → MachineId → TaskId → ℕ → List Cause

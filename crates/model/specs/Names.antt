@@ -21,6 +21,7 @@ pub use Rattle.model.specs.declared.Wire.{Wire}
 pub use Rattle.model.specs.declared.Status.{Status}
 pub use Rattle.model.specs.declared.Status.the-variants.{Idle, Waiting, Holding}
 pub use Rattle.model.specs.declared.ClientState.{ClientState}
+pub use Rattle.model.specs.declared.Site.{Site}
 pub use Rattle.model.specs.declared.LockState.{LockState}
 pub use Rattle.model.specs.declared.Cluster.{Cluster}
 pub use Rattle.model.specs.declared.Call.{Call}

@@ -98,6 +98,13 @@ pub struct ClientState {
     pub status: Status,
 }
 
+// What a step looks at and may write of a lock's record: the decider, one machine's agent or none, one client's status.
+pub struct Site {
+    pub decider: Decider,
+    pub slot: AgentSlot,
+    pub status: Status,
+}
+
 // A lock's record in document 01.
 pub struct LockState {
     pub decider: Decider,

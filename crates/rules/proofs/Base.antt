@@ -23,9 +23,9 @@ pub use Rattle.rules.specs.Leaving.{hands-on, frees}
 pub use Rattle.rules.specs.Admits.{Room, admits, admits-none, admits-more, room-first, room-more, shared-fits, shared-joins, exclusive-fits, exclusive-stays, room-start, admits-start, room-left}
 pub use Rattle.rules.specs.Deciding.{marked-sent}
 pub use Rattle.model.specs.Asking.{lists}
-unfoldable pub use Rattle.model.specs.Asking.{asks, acquires, leaves, releases}
+unfoldable pub use Rattle.model.specs.Asking.{asks, acquires, staysIf, releases}
 unfoldable pub use Rattle.model.specs.AtDecider.{toOwner, decidesAcquire, decidesFree, decidesGrant, decides, atDecider}
 unfoldable pub use Rattle.model.specs.AtMachine.{admitted, staying, joined, installs, granted, marked, unmarked, acquired, released, returned, arrives, atMachine}
-unfoldable pub use Rattle.model.specs.Calls.{delivers, acquireStep, releaseStep, deliverStep}
+unfoldable pub use Rattle.model.specs.Calls.{delivers, acquireStep, releaseStep, takes, deliverStep}
 pub use Rattle.laws.specs.Tests.{pick-yes, pick-no}
 pub use Rattle.rules.specs.Plans.{finish-stuck, finish-full, plans-refusal, plans-effect, rest-fits}

@@ -10,7 +10,7 @@ use Rattle.rules.specs.declared.effect.Effect.{Effect}
 use Rattle.rules.specs.Names.{Waiter, Packet, Wire}
 use Rattle.model.specs.Lists.{pick}
 use Rattle.model.specs.States.{waiters, wireOf, packets}
-use Rattle.model.specs.Changes.{Change, Verdict, cannot-place, does}
+use Rattle.model.specs.Changes.{Verdict, cannot-place, does}
 use Rattle.model.specs.AtMachine.{grantOf}
 use Rattle.laws.specs.Shapes.{CanonicalWire, packets-of, canonical-wire, wire-whole, length-packets}
 use Rattle.parts.specs.Writes.{sent-at}
@@ -19,11 +19,8 @@ use Rattle.parts.specs.Writes.{sent-at}
 unfoldable pub sentBy : Sends → List Packet
 sentBy t = take (t .count) (t .first ∷ t .second ∷ []) ++ map grantOf (waiters (t .admitted))
 
-abbrev pub changeOf : Effect → Change
-changeOf e = record { decider = e .decider; machine = e .machine; slot = e .slot; client = e .client; status = e .status; sends = sentBy (e .sends) }
-
 unfoldable pub verdictOf : Effect → Verdict
-verdictOf e = pick (e .placed) (does (changeOf e)) cannot-place
+verdictOf e = pick (e .placed) (does (e .site) (sentBy (e .sends))) cannot-place
 
 pub sent-length : (t : Sends) → length (sentBy t) ≡ length (take (t .count) (t .first ∷ t .second ∷ [])) + length (take (t .admitted .len) (t .admitted .slots))
 unfolding sentBy waiters

@@ -13,6 +13,7 @@ pub use Rattle.model.specs.declared.Message.the-variants.{Free, Grant}
 pub use Rattle.model.specs.declared.Packet.{Packet}
 pub use Rattle.model.specs.declared.Wire.{Wire}
 pub use Rattle.model.specs.declared.Status.the-variants.{Waiting}
+pub use Rattle.model.specs.declared.Site.{Site}
 pub use Rattle.model.specs.declared.LockState.{LockState}
 pub use Rattle.model.specs.declared.Refusal.{Refusal}
 pub use Rattle.model.specs.declared.Refusal.the-variants.{CannotPlace, WireFull}

@@ -9,20 +9,20 @@ use lib.Dec.{leb}
 use borrow.Author.Tests.{le-leb, lt-leb}
 use Rattle.rules.specs.declared.effect.Effect.{Effect}
 use Rattle.rules.specs.declared.plan.Plan.{Plan}
-use Rattle.rules.specs.Names.{Packet, Wire, LockState, Refusal, CannotPlace, WireFull, Answer, Accepted, Refused, Stepped}
+use Rattle.rules.specs.Names.{MachineId, ClientId, Packet, Wire, LockState, Refusal, CannotPlace, WireFull, Answer, Accepted, Refused, Stepped}
 use Rattle.model.specs.Lists.{removed}
 use Rattle.model.specs.States.{wireOf, packets}
 use Rattle.model.specs.Changes.{Verdict, cannot-place, does, apply, accepted, refused, finish}
 use Rattle.laws.specs.Tests.{pick-yes, pick-no}
 use Rattle.laws.specs.Shapes.{CanonicalWire, canonical-wire}
-use Rattle.rules.specs.Effects.{sentBy, changeOf, verdictOf}
+use Rattle.rules.specs.Effects.{sentBy, verdictOf}
 
 -- the packets that stay on the wire
 abbrev pub leftBy : Plan → LockState → List Packet
 leftBy p s = removed (packets (s .wire)) (p .index)
 
 abbrev pub carriedOut : Plan → LockState → LockState
-carriedOut p s = apply (changeOf (p .effect)) (leftBy p s) s
+carriedOut p s = apply (p .machine) (p .client) (p .effect .site) (sentBy (p .effect .sends)) (leftBy p s) s
 
 unfoldable pub endsWith : Answer → Plan → LockState → Stepped
 endsWith Accepted p s = accepted (carriedOut p s)
@@ -50,28 +50,28 @@ pub plans-refusal : (p : Plan) (n : Refusal) (s : LockState) → p .answer ≡ R
 unfolding endsWith
 plans-refusal p n s e = record { ends = ap (λ (a : Answer). endsWith a p s) e; fits = λ q. absurd (refused-accepted n (sym e ∙ q)) }
 
-module _ (e : Effect) (rest : List Packet) (s : LockState) where
-  pub finish-stuck : e .placed ≡ false → refused CannotPlace s ≡ finish (verdictOf e) rest s
+module _ (k : MachineId) (c : ClientId) (e : Effect) (rest : List Packet) (s : LockState) where
+  pub finish-stuck : e .placed ≡ false → refused CannotPlace s ≡ finish k c (verdictOf e) rest s
   unfolding finish verdictOf
-  finish-stuck p = sym (ap (λ (v : Verdict). finish v rest s) (pick-no (does (changeOf e)) p))
+  finish-stuck p = sym (ap (λ (v : Verdict). finish k c v rest s) (pick-no (does (e .site) (sentBy (e .sends))) p))
 
   module _ (p : e .placed ≡ true) where
-    pub finish-full : 33 < length rest + length (sentBy (e .sends)) → refused WireFull s ≡ finish (verdictOf e) rest s
+    pub finish-full : 33 < length rest + length (sentBy (e .sends)) → refused WireFull s ≡ finish k c (verdictOf e) rest s
     unfolding finish verdictOf
-    finish-full k =
-        let f : leb (length rest + length (sentBy (e .sends))) 33 ≡ false = lt-leb (length rest + length (sentBy (e .sends))) 33 k in
-        sym (ap (λ (v : Verdict). finish v rest s) (pick-yes cannot-place p) ∙ pick-no (accepted (apply (changeOf e) rest s)) f)
+    finish-full h =
+        let f : leb (length rest + length (sentBy (e .sends))) 33 ≡ false = lt-leb (length rest + length (sentBy (e .sends))) 33 h in
+        sym (ap (λ (v : Verdict). finish k c v rest s) (pick-yes cannot-place p) ∙ pick-no (accepted (apply k c (e .site) (sentBy (e .sends)) rest s)) f)
 
-    finish-fits : length rest + length (sentBy (e .sends)) ≤ 33 → accepted (apply (changeOf e) rest s) ≡ finish (verdictOf e) rest s
+    finish-fits : length rest + length (sentBy (e .sends)) ≤ 33 → accepted (apply k c (e .site) (sentBy (e .sends)) rest s) ≡ finish k c (verdictOf e) rest s
     unfolding finish verdictOf
-    finish-fits k =
-        let f : leb (length rest + length (sentBy (e .sends))) 33 ≡ true = le-leb (length rest + length (sentBy (e .sends))) 33 k in
-        sym (ap (λ (v : Verdict). finish v rest s) (pick-yes cannot-place p) ∙ pick-yes (refused WireFull s) f)
+    finish-fits h =
+        let f : leb (length rest + length (sentBy (e .sends))) 33 ≡ true = le-leb (length rest + length (sentBy (e .sends))) 33 h in
+        sym (ap (λ (v : Verdict). finish k c v rest s) (pick-yes cannot-place p) ∙ pick-yes (refused WireFull s) f)
 
-pub plans-effect : (e : Effect) (i : ℕ) (s : LockState) → e .placed ≡ true → length (removed (packets (s .wire)) i) + length (sentBy (e .sends)) ≤ 33
-    → Plans (record { answer = Accepted; index = i; effect = e }) s (finish (verdictOf e) (removed (packets (s .wire)) i) s)
+pub plans-effect : (k : MachineId) (c : ClientId) (e : Effect) (i : ℕ) (s : LockState) → e .placed ≡ true → length (removed (packets (s .wire)) i) + length (sentBy (e .sends)) ≤ 33
+    → Plans (record { answer = Accepted; index = i; machine = k; client = c; effect = e }) s (finish k c (verdictOf e) (removed (packets (s .wire)) i) s)
 unfolding endsWith
-plans-effect e i s p k = record { ends = finish-fits e (removed (packets (s .wire)) i) s p k; fits = λ q. k }
+plans-effect k c e i s p h = record { ends = finish-fits k c e (removed (packets (s .wire)) i) s p h; fits = λ q. h }
 
 -- ---- the wire without the packet taken off has room for those sent
 pub rest-fits : (w : Wire) (ps : List Packet) (k : ℕ) → w ≡ wireOf ps → length ps + k ≤ 33 → (CanonicalWire w) × (w .len + k ≤ 33)

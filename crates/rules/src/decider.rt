@@ -1,4 +1,4 @@
-// Deliveries at the decider. Parameters of a rule: s the state as given, p the packet, o the owner in s.
+// Deliveries at the decider. Parameters of a rule: v the site, p the packet, o the owner.
 use crate::effect::Effect;
 use crate::effect::cannot_place;
 use crate::effect::deciding;
@@ -11,12 +11,12 @@ use model::Address;
 use model::Agent;
 use model::ClientId;
 use model::Decider;
-use model::LockState;
 use model::MachineId;
 use model::Message;
 use model::Mode;
 use model::Owner;
 use model::Packet;
+use model::Site;
 use parts::blank::new_agent;
 use parts::blank::plain_packet;
 use parts::blank::seat;
@@ -26,7 +26,6 @@ ghost use mathlib.Core.Bool.{Bool, true, false, _&&_};
 ghost use mathlib.Core.List.{List, [], _∷_};
 ghost use lib.Dec.{eqb};
 ghost use Rattle.model.specs.States.{machineOf, isShared};
-ghost use Rattle.model.specs.Changes.{does};
 ghost use Rattle.model.specs.AtDecider.{sentOn, toOwner, granting, grantsFirst, shares, decidesAcquire, decidesFree, decidesGrant, decides, atDecider};
 ghost use Rattle.rules.specs.Effects.{verdictOf};
 ghost use Rattle.rules.specs.Deciding.{rejectedTo, passing};
@@ -77,38 +76,38 @@ pub fn grant_with(c: ClientId, m: Mode, a: Agent) -> Packet
     }
 }
 
-pub fn to_owner(o: Owner, s: LockState, p: Packet) -> Effect
-    ensures { λ r. ⌜ verdictOf r ≡ toOwner o s p ⌝ }
+pub fn to_owner(o: Owner, v: Site, p: Packet) -> Effect
+    ensures { λ r. ⌜ verdictOf r ≡ toOwner o v p ⌝ }
 {
     match o {
         Owner::Free => cannot_place(),
-        Owner::Owned(_, k) => sending(s, sent_on(p, k)),
+        Owner::Owned(_, k) => sending(v, sent_on(p, k)),
     }
 }
 
 // The client's machine becomes the owner, and gets the agent a with the GRANT.
-pub fn pass_agent(s: LockState, c: ClientId, m: Mode, a: Agent) -> Effect
-    ensures { λ r. ⌜ verdictOf r ≡ does (passing s c m a) ⌝ }
+pub fn pass_agent(v: Site, c: ClientId, m: Mode, a: Agent) -> Effect
+    ensures { λ r. ⌜ verdictOf r ≡ passing v c m a ⌝ }
 {
     let k = machine_of(c);
     let d = Decider {
         owner: Owner::Owned(m, k),
         incarnation: 0,
     };
-    deciding(s, d, one_packet(grant_with(c, m, a)))
+    deciding(v, d, one_packet(grant_with(c, m, a)))
 }
 
-pub fn grants_first(s: LockState, c: ClientId, m: Mode) -> Effect
-    ensures { λ r. ⌜ verdictOf r ≡ does (grantsFirst s c m) ⌝ }
+pub fn grants_first(v: Site, c: ClientId, m: Mode) -> Effect
+    ensures { λ r. ⌜ verdictOf r ≡ grantsFirst v c m ⌝ }
 {
-    pass_agent(s, c, m, new_agent(m))
+    pass_agent(v, c, m, new_agent(m))
 }
 
 // The GRANT goes out before the marked ACQUIRE.
-pub fn shares(s: LockState, c: ClientId, k: MachineId) -> Effect
-    ensures { λ r. ⌜ verdictOf r ≡ does (shares s c k) ⌝ }
+pub fn shares(v: Site, c: ClientId, k: MachineId) -> Effect
+    ensures { λ r. ⌜ verdictOf r ≡ shares v c k ⌝ }
 {
-    let old = s.decider;
+    let old = v.decider;
     let o = old.owner;
     let n = std::num::wrapping_add_u8(old.incarnation, 1);
     let d = Decider {
@@ -130,36 +129,29 @@ pub fn shares(s: LockState, c: ClientId, k: MachineId) -> Effect
         },
         Address::Machine(k),
     );
-    deciding(s, d, two_packets(g, a))
+    deciding(v, d, two_packets(g, a))
 }
 
-pub fn decides_acquire(
-    o: Owner,
-    s: LockState,
-    p: Packet,
-    c: ClientId,
-    m: Mode,
-    granted: bool,
-) -> Effect
-    ensures { λ r. ⌜ verdictOf r ≡ decidesAcquire o s p c m granted ⌝ }
+pub fn decides_acquire(o: Owner, v: Site, p: Packet, c: ClientId, m: Mode, granted: bool) -> Effect
+    ensures { λ r. ⌜ verdictOf r ≡ decidesAcquire o v p c m granted ⌝ }
 {
     if granted {
-        to_owner(o, s, p)
+        to_owner(o, v, p)
     } else {
-        decides_unmarked(o, s, p, c, m)
+        decides_unmarked(o, v, p, c, m)
     }
 }
 
-pub fn decides_unmarked(o: Owner, s: LockState, p: Packet, c: ClientId, m: Mode) -> Effect
-    ensures { λ r. ⌜ verdictOf r ≡ decidesAcquire o s p c m false ⌝ }
+pub fn decides_unmarked(o: Owner, v: Site, p: Packet, c: ClientId, m: Mode) -> Effect
+    ensures { λ r. ⌜ verdictOf r ≡ decidesAcquire o v p c m false ⌝ }
 {
     match o {
-        Owner::Free => grants_first(s, c, m),
+        Owner::Free => grants_first(v, c, m),
         Owner::Owned(n, k) => {
             if both_shared(n, m) {
-                shares(s, c, k)
+                shares(v, c, k)
             } else {
-                sending(s, sent_on(p, k))
+                sending(v, sent_on(p, k))
             }
         }
     }
@@ -172,74 +164,74 @@ pub fn is_current(d: Decider, p: Packet) -> bool
     p.carried.agent.incarnation == d.incarnation
 }
 
-pub fn decides_free(o: Owner, s: LockState, p: Packet) -> Effect
-    ensures { λ r. ⌜ verdictOf r ≡ decidesFree o s p ⌝ }
+pub fn decides_free(o: Owner, v: Site, p: Packet) -> Effect
+    ensures { λ r. ⌜ verdictOf r ≡ decidesFree o v p ⌝ }
 {
     match o {
         Owner::Free => cannot_place(),
         Owner::Owned(_, k) => {
-            if is_current(s.decider, p) {
+            if is_current(v.decider, p) {
                 let d = Decider {
                     owner: Owner::Free,
                     incarnation: 0,
                 };
-                deciding(s, d, no_packet())
+                deciding(v, d, no_packet())
             } else {
-                sending(s, rejected_to(p, k))
+                sending(v, rejected_to(p, k))
             }
         }
     }
 }
 
 // A GRANT with its agent.
-pub fn decides_agent(o: Owner, s: LockState, p: Packet, c: ClientId, m: Mode) -> Effect
-    ensures { λ r. ⌜ verdictOf r ≡ decidesGrant true o s p c m ⌝ }
+pub fn decides_agent(o: Owner, v: Site, p: Packet, c: ClientId, m: Mode) -> Effect
+    ensures { λ r. ⌜ verdictOf r ≡ decidesGrant true o v p c m ⌝ }
 {
     match o {
         Owner::Free => cannot_place(),
         Owner::Owned(_, k) => {
-            if is_current(s.decider, p) {
+            if is_current(v.decider, p) {
                 let x = p.carried;
                 let mut a = x.agent;
                 a.incarnation = 0;
-                pass_agent(s, c, m, a)
+                pass_agent(v, c, m, a)
             } else {
-                sending(s, rejected_to(p, k))
+                sending(v, rejected_to(p, k))
             }
         }
     }
 }
 
-pub fn decides_grant(o: Owner, s: LockState, p: Packet, c: ClientId, m: Mode) -> Effect
-    ensures { λ r. ⌜ verdictOf r ≡ decidesGrant (p .carried .present) o s p c m ⌝ }
+pub fn decides_grant(o: Owner, v: Site, p: Packet, c: ClientId, m: Mode) -> Effect
+    ensures { λ r. ⌜ verdictOf r ≡ decidesGrant (p .carried .present) o v p c m ⌝ }
 {
     if p.carried.present {
-        decides_agent(o, s, p, c, m)
+        decides_agent(o, v, p, c, m)
     } else {
-        sending(s, sent_on(p, machine_of(c)))
+        sending(v, sent_on(p, machine_of(c)))
     }
 }
 
-pub fn decides(m: Message, o: Owner, s: LockState, p: Packet) -> Effect
-    ensures { λ r. ⌜ verdictOf r ≡ decides m o s p ⌝ }
+pub fn decides(m: Message, o: Owner, v: Site, p: Packet) -> Effect
+    ensures { λ r. ⌜ verdictOf r ≡ decides m o v p ⌝ }
 {
     match m {
-        Message::Free => decides_free(o, s, p),
+        Message::Free => decides_free(o, v, p),
         Message::Acquire {
             client,
             mode,
             granted,
-        } => decides_acquire(o, s, p, client, mode, granted),
-        Message::Grant { client, mode } => decides_grant(o, s, p, client, mode),
-        Message::Release { client: _ } => to_owner(o, s, p),
+        } => decides_acquire(o, v, p, client, mode, granted),
+        Message::Grant { client, mode } => decides_grant(o, v, p, client, mode),
+        Message::Release { client: _ } => to_owner(o, v, p),
     }
 }
 
-pub fn at_decider(s: LockState, p: Packet) -> Effect
-    ensures { λ r. ⌜ verdictOf r ≡ atDecider s p ⌝ }
+pub fn at_decider(v: Site, p: Packet) -> Effect
+    ensures { λ r. ⌜ verdictOf r ≡ atDecider v p ⌝ }
 {
     let m = p.message;
-    let d = s.decider;
+    let d = v.decider;
     let o = d.owner;
-    decides(m, o, s, p)
+    decides(m, o, v, p)
 }

@@ -1,22 +1,18 @@
 // What a rule says of a step, as the model's verdict does: that it cannot be placed, or all that it writes and sends.
 use model::AgentSlot;
-use model::ClientId;
 use model::Decider;
-use model::LockState;
-use model::MachineId;
 use model::Owner;
 use model::Packet;
 use model::Queue;
+use model::Site;
 use model::Status;
 use parts::blank::blank_packet;
 use parts::blank::empty_queue;
 use parts::blank::no_agent;
-use parts::state::agent_at;
-use parts::state::status_at;
 ghost use mathlib.Core.Path.{_≡_};
 ghost use mathlib.Core.List.{[], _∷_, map};
 ghost use Rattle.model.specs.States.{waiters};
-ghost use Rattle.model.specs.Changes.{cannot-place, does, sending, deciding, seating, telling, seatingTelling};
+ghost use Rattle.model.specs.Changes.{withDecider, withSlot, withStatus, cannot-place, does};
 ghost use Rattle.model.specs.AtMachine.{grantOf};
 ghost use Rattle.rules.specs.Effects.{sentBy, verdictOf};
 
@@ -28,14 +24,10 @@ pub struct Sends {
     pub admitted: Queue,
 }
 
-// placed: the step can be placed, and the other fields are its change.
+// placed: the step can be placed; site: what it writes.
 pub struct Effect {
     pub placed: bool,
-    pub decider: Decider,
-    pub machine: MachineId,
-    pub slot: AgentSlot,
-    pub client: ClientId,
-    pub status: Status,
+    pub site: Site,
     pub sends: Sends,
 }
 
@@ -92,79 +84,74 @@ pub fn cannot_place() -> Effect
     };
     let x = no_agent();
     let t = no_packet();
+    let v = Site {
+        decider: d,
+        slot: x,
+        status: Status::Idle,
+    };
     Effect {
         placed: false,
-        decider: d,
-        machine: MachineId(0),
-        slot: x,
-        client: ClientId(0),
-        status: Status::Idle,
+        site: v,
         sends: t,
     }
 }
 
-// ---- changes that write only a part: what is not written is written as it was
-pub fn seating_telling(
-    s: LockState,
-    k: MachineId,
-    x: AgentSlot,
-    c: ClientId,
-    st: Status,
-    t: Sends,
-) -> Effect
-    ensures { λ r. ⌜ verdictOf r ≡ does (seatingTelling s k x c st (sentBy t)) ⌝ }
+// ---- steps that write only a part of the site: the rest is as it was
+pub fn doing(v: Site, t: Sends) -> Effect
+    ensures { λ r. ⌜ verdictOf r ≡ does v (sentBy t) ⌝ }
 {
-    let d = s.decider;
     Effect {
         placed: true,
-        decider: d,
-        machine: k,
-        slot: x,
-        client: c,
-        status: st,
+        site: v,
         sends: t,
     }
 }
 
-pub fn seating(s: LockState, k: MachineId, x: AgentSlot, t: Sends) -> Effect
-    ensures { λ r. ⌜ verdictOf r ≡ does (seating s k x (sentBy t)) ⌝ }
+pub fn seating_telling(v: Site, x: AgentSlot, st: Status, t: Sends) -> Effect
+    ensures { λ r. ⌜ verdictOf r ≡ does (withSlot (withStatus v st) x) (sentBy t) ⌝ }
 {
-    let clients = s.clients;
-    let c = ClientId(0);
-    seating_telling(s, k, x, c, status_at(clients, c), t)
+    let d = v.decider;
+    doing(
+        Site {
+            decider: d,
+            slot: x,
+            status: st,
+        },
+        t,
+    )
 }
 
-pub fn telling(s: LockState, c: ClientId, st: Status, t: Sends) -> Effect
-    ensures { λ r. ⌜ verdictOf r ≡ does (telling s c st (sentBy t)) ⌝ }
+pub fn seating(v: Site, x: AgentSlot, t: Sends) -> Effect
+    ensures { λ r. ⌜ verdictOf r ≡ does (withSlot v x) (sentBy t) ⌝ }
 {
-    let agents = s.agents;
-    let k = MachineId(0);
-    seating_telling(s, k, agent_at(agents, k), c, st, t)
+    let st = v.status;
+    seating_telling(v, x, st, t)
 }
 
-pub fn deciding(s: LockState, d: Decider, t: Sends) -> Effect
-    ensures { λ r. ⌜ verdictOf r ≡ does (deciding s d (sentBy t)) ⌝ }
+pub fn telling(v: Site, st: Status, t: Sends) -> Effect
+    ensures { λ r. ⌜ verdictOf r ≡ does (withStatus v st) (sentBy t) ⌝ }
 {
-    let agents = s.agents;
-    let clients = s.clients;
-    let k = MachineId(0);
-    let c = ClientId(0);
-    let x = agent_at(agents, k);
-    let st = status_at(clients, c);
-    Effect {
-        placed: true,
-        decider: d,
-        machine: k,
-        slot: x,
-        client: c,
-        status: st,
-        sends: t,
-    }
+    seating_telling(v, v.slot, st, t)
+}
+
+pub fn deciding(v: Site, d: Decider, t: Sends) -> Effect
+    ensures { λ r. ⌜ verdictOf r ≡ does (withDecider v d) (sentBy t) ⌝ }
+{
+    let x = v.slot;
+    let st = v.status;
+    doing(
+        Site {
+            decider: d,
+            slot: x,
+            status: st,
+        },
+        t,
+    )
 }
 
 // Nothing but a packet sent.
-pub fn sending(s: LockState, p: Packet) -> Effect
-    ensures { λ r. ⌜ verdictOf r ≡ does (sending s (p ∷ [])) ⌝ }
+pub fn sending(v: Site, p: Packet) -> Effect
+    ensures { λ r. ⌜ verdictOf r ≡ does v (p ∷ []) ⌝ }
 {
-    deciding(s, s.decider, one_packet(p))
+    doing(v, one_packet(p))
 }

@@ -2,16 +2,16 @@
 use crate::effect::Effect;
 use crate::effect::no_packet;
 use crate::effect::one_packet;
-use crate::effect::seating_telling;
-use crate::effect::telling;
+use crate::effect::seating;
+use crate::effect::sending;
 use model::Address;
 use model::Agent;
 use model::AgentSlot;
 use model::ClientId;
-use model::LockState;
 use model::MachineId;
 use model::Message;
 use model::Packet;
+use model::Site;
 use model::Status;
 use parts::blank::no_agent;
 use parts::blank::plain_packet;
@@ -21,11 +21,9 @@ use parts::holders::holds;
 use parts::holders::set_holder;
 use parts::queue::first;
 use parts::queue::pop;
-use parts::state::agent_at;
 ghost use mathlib.Core.Path.{_≡_};
 ghost use mathlib.Core.Bool.{false};
-ghost use Rattle.model.specs.States.{waiters, agentOn, seated, machineOf};
-ghost use Rattle.model.specs.Changes.{does};
+ghost use Rattle.model.specs.States.{waiters, seated, machineOf};
 ghost use Rattle.model.specs.Asking.{handOver, leaves, lists, releases};
 ghost use Rattle.laws.specs.Shapes.{CanonicalQueue};
 ghost use Rattle.rules.specs.Names.{ToDecider};
@@ -62,26 +60,19 @@ pub fn hand_over(mut a: Agent, hs: [bool; 16]) -> Packet
     }
 }
 
-// The agent a of machine k removes the holder c and leaves if empty; the status of d becomes st.
-pub fn leave(
-    s: LockState,
-    k: MachineId,
-    mut a: Agent,
-    c: ClientId,
-    d: ClientId,
-    st: Status,
-) -> Effect
+// The agent a removes the holder c and leaves if empty.
+pub fn leave(v: Site, mut a: Agent, c: ClientId) -> Effect
     requires { ⌜ CanonicalQueue (a .queue) ⌝ }
-    ensures { λ r. ⌜ verdictOf r ≡ does (leaves s k a c d st) ⌝ }
+    ensures { λ r. ⌜ verdictOf r ≡ leaves v a c ⌝ }
 {
     let h = a.holders;
     let g = set_holder(h, c, false);
     if any_holder(g) {
         a.holders = g;
-        seating_telling(s, k, seat(a), d, st, no_packet())
+        seating(v, seat(a), no_packet())
     } else {
         let p = hand_over(a, g);
-        seating_telling(s, k, no_agent(), d, st, one_packet(p))
+        seating(v, no_agent(), one_packet(p))
     }
 }
 
@@ -101,17 +92,21 @@ pub fn machine_of(c: ClientId) -> MachineId
 }
 
 // A client that holds releases.
-pub fn release(s: LockState, c: ClientId) -> Effect
-    requires { ⌜ CanonicalQueue (agentOn s (machineOf c) .agent .queue) ⌝ }
-    ensures { λ r. ⌜ verdictOf r ≡ releases s c ⌝ }
+pub fn release(v: Site, c: ClientId) -> Effect
+    requires { ⌜ CanonicalQueue (v .slot .agent .queue) ⌝ }
+    ensures { λ r. ⌜ verdictOf r ≡ releases v c ⌝ }
 {
-    let k = machine_of(c);
-    let agents = s.agents;
-    let x = agent_at(agents, k);
+    let d = v.decider;
+    let x = v.slot;
+    let w = Site {
+        decider: d,
+        slot: x,
+        status: Status::Idle,
+    };
     if listed(x, c) {
-        leave(s, k, x.agent, c, c, Status::Idle)
+        leave(w, x.agent, c)
     } else {
         let p = plain_packet(Message::Release { client: c }, Address::Decider);
-        telling(s, c, Status::Idle, one_packet(p))
+        sending(w, p)
     }
 }

@@ -1,4 +1,4 @@
-// Deliveries at a machine. s is the state as given, k the machine.
+// Deliveries at a machine. v is the site.
 use crate::effect::Effect;
 use crate::effect::cannot_place;
 use crate::effect::grants_to;
@@ -14,12 +14,11 @@ use model::Address;
 use model::Agent;
 use model::AgentSlot;
 use model::ClientId;
-use model::LockState;
-use model::MachineId;
 use model::Message;
 use model::Mode;
 use model::Packet;
 use model::Queue;
+use model::Site;
 use model::Status;
 use model::Waiter;
 use parts::blank::empty_queue;
@@ -32,15 +31,13 @@ use parts::holders::set_holder;
 use parts::queue::no_room;
 use parts::queue::push;
 use parts::queue::push_front;
-use parts::state::agent_at;
-use parts::state::status_at;
 ghost use mathlib.Core.Path.{_≡_};
 ghost use mathlib.Core.Bool.{true, false};
 ghost use mathlib.Core.List.{[], _∷_};
 ghost use Prim.Native.Nat.{_≤_};
 ghost use lib.ListN.{take};
-ghost use Rattle.model.specs.States.{queueOf, waiters, agentOn, seated};
-ghost use Rattle.model.specs.Changes.{does, seating};
+ghost use Rattle.model.specs.States.{queueOf, waiters, seated};
+ghost use Rattle.model.specs.Changes.{withSlot, does};
 ghost use Rattle.model.specs.Asking.{queuing, withRoom};
 ghost use Rattle.model.specs.AtMachine.{bounced, ofMode, joined, installs, requeued, granted, marked, unmarked, acquired, released, returned, arrives, atMachine};
 ghost use Rattle.laws.specs.Shapes.{CanonicalQueue};
@@ -105,9 +102,9 @@ pub fn admit_queue(g: [bool; 16], q: Queue) -> Round
     admit_all(t, slots, q.len as usize)
 }
 
-pub fn install_shared(s: LockState, k: MachineId, c: ClientId, a: Agent) -> Effect
+pub fn install_shared(v: Site, c: ClientId, a: Agent) -> Effect
     requires { ⌜ CanonicalQueue (a .queue) ⌝ }
-    ensures { λ r. ⌜ verdictOf r ≡ does (installs s k c Shared a) ⌝ }
+    ensures { λ r. ⌜ verdictOf r ≡ installs v c Shared a ⌝ }
 {
     let h = a.holders;
     let r = admit_queue(set_holder(h, c, true), a.queue);
@@ -120,12 +117,12 @@ pub fn install_shared(s: LockState, k: MachineId, c: ClientId, a: Agent) -> Effe
         incarnation: a.incarnation,
     };
     let t = grants_to(r.admitted);
-    seating_telling(s, k, seat(b), c, Status::Holding(Mode::Shared), t)
+    seating_telling(v, seat(b), Status::Holding(Mode::Shared), t)
 }
 
-pub fn install_exclusive(s: LockState, k: MachineId, c: ClientId, a: Agent) -> Effect
+pub fn install_exclusive(v: Site, c: ClientId, a: Agent) -> Effect
     requires { ⌜ CanonicalQueue (a .queue) ⌝ }
-    ensures { λ r. ⌜ verdictOf r ≡ does (installs s k c Exclusive a) ⌝ }
+    ensures { λ r. ⌜ verdictOf r ≡ installs v c Exclusive a ⌝ }
 {
     let h = a.holders;
     let g = set_holder(h, c, true);
@@ -137,42 +134,42 @@ pub fn install_exclusive(s: LockState, k: MachineId, c: ClientId, a: Agent) -> E
         incarnation: a.incarnation,
     };
     let st = Status::Holding(Mode::Exclusive);
-    seating_telling(s, k, seat(b), c, st, no_packet())
+    seating_telling(v, seat(b), st, no_packet())
 }
 
-pub fn install(s: LockState, k: MachineId, c: ClientId, m: Mode, a: Agent) -> Effect
+pub fn install(v: Site, c: ClientId, m: Mode, a: Agent) -> Effect
     requires { ⌜ CanonicalQueue (a .queue) ⌝ }
-    ensures { λ r. ⌜ verdictOf r ≡ does (installs s k c m a) ⌝ }
+    ensures { λ r. ⌜ verdictOf r ≡ installs v c m a ⌝ }
 {
     match m {
-        Mode::Exclusive => install_exclusive(s, k, c, a),
-        Mode::Shared => install_shared(s, k, c, a),
+        Mode::Exclusive => install_exclusive(v, c, a),
+        Mode::Shared => install_shared(v, c, a),
     }
 }
 
 // The client joins the end of the agent's queue.
-pub fn queue_last(s: LockState, k: MachineId, mut a: Agent, c: ClientId, m: Mode) -> Effect
+pub fn queue_last(v: Site, mut a: Agent, c: ClientId, m: Mode) -> Effect
     requires { ⌜ CanonicalQueue (a .queue) ⌝ }
-    ensures { λ r. ⌜ verdictOf r ≡ withRoom a c (seating s k (seated (queuing a c m)) []) ⌝ }
+    ensures { λ r. ⌜ verdictOf r ≡ withRoom a c (does (withSlot v (seated (queuing a c m))) []) ⌝ }
 {
     if no_room(a, c) {
         cannot_place()
     } else {
         a.queue = push(a.queue, Waiter { client: c, mode: m });
-        seating(s, k, seat(a), no_packet())
+        seating(v, seat(a), no_packet())
     }
 }
 
 // The client goes back to the front of the agent's queue.
-pub fn queue_first(s: LockState, k: MachineId, mut a: Agent, c: ClientId, m: Mode) -> Effect
+pub fn queue_first(v: Site, mut a: Agent, c: ClientId, m: Mode) -> Effect
     requires { ⌜ CanonicalQueue (a .queue) ⌝ }
-    ensures { λ r. ⌜ verdictOf r ≡ withRoom a c (seating s k (seated (requeued a c m)) []) ⌝ }
+    ensures { λ r. ⌜ verdictOf r ≡ withRoom a c (does (withSlot v (seated (requeued a c m))) []) ⌝ }
 {
     if no_room(a, c) {
         cannot_place()
     } else {
         a.queue = push_front(a.queue, Waiter { client: c, mode: m });
-        seating(s, k, seat(a), no_packet())
+        seating(v, seat(a), no_packet())
     }
 }
 
@@ -192,8 +189,7 @@ pub fn bounce(p: Packet) -> Packet
 
 // here: an agent is on the machine; x: the agent carried, or none.
 pub fn grant_arrives(
-    s: LockState,
-    k: MachineId,
+    v: Site,
     here: bool,
     x: AgentSlot,
     rejected: bool,
@@ -201,126 +197,114 @@ pub fn grant_arrives(
     m: Mode,
 ) -> Effect
     requires { ⌜ CanonicalQueue (x .agent .queue) ⌝ }
-    ensures { λ r. ⌜ verdictOf r ≡ granted s k here (x .present) rejected (x .agent) c m ⌝ }
+    ensures { λ r. ⌜ verdictOf r ≡ granted here (x .present) rejected v (x .agent) c m ⌝ }
 {
     if x.present {
         if here {
             cannot_place()
         } else if rejected {
-            queue_first(s, k, x.agent, c, m)
+            queue_first(v, x.agent, c, m)
         } else {
-            install(s, k, c, m, x.agent)
+            install(v, c, m, x.agent)
         }
     } else {
-        telling(s, c, Status::Holding(m), no_packet())
+        telling(v, Status::Holding(m), no_packet())
     }
 }
 
 // An ACQUIRE that the decider granted: its mark is counted in the agent's incarnation.
-pub fn marked_arrives(s: LockState, k: MachineId, a: Agent, c: ClientId) -> Effect
-    ensures { λ r. ⌜ verdictOf r ≡ marked s k a c ⌝ }
+pub fn marked_arrives(v: Site, a: Agent, c: ClientId) -> Effect
+    ensures { λ r. ⌜ verdictOf r ≡ marked v a c ⌝ }
 {
     let m = a.mode;
     if is_shared(m) {
         let mut b = join(a, c);
         b.incarnation = std::num::wrapping_add_u8(a.incarnation, 1);
-        seating(s, k, seat(b), no_packet())
+        seating(v, seat(b), no_packet())
     } else {
         cannot_place()
     }
 }
 
-pub fn unmarked_arrives(s: LockState, k: MachineId, a: Agent, c: ClientId, m: Mode) -> Effect
+pub fn unmarked_arrives(v: Site, a: Agent, c: ClientId, m: Mode) -> Effect
     requires { ⌜ CanonicalQueue (a .queue) ⌝ }
-    ensures { λ r. ⌜ verdictOf r ≡ unmarked s k a c m ⌝ }
+    ensures { λ r. ⌜ verdictOf r ≡ unmarked v a c m ⌝ }
 {
     if may_join(a, m) {
         let x = seat(join(a, c));
         let p = plain_packet(Message::Grant { client: c, mode: m }, Address::Decider);
-        seating(s, k, x, one_packet(p))
+        seating(v, x, one_packet(p))
     } else {
-        queue_last(s, k, a, c, m)
+        queue_last(v, a, c, m)
     }
 }
 
-// x: the agent on the machine, or none.
-pub fn acquire_arrives(
-    s: LockState,
-    k: MachineId,
-    x: AgentSlot,
-    p: Packet,
-    c: ClientId,
-    m: Mode,
-    granted: bool,
-) -> Effect
-    requires { ⌜ CanonicalQueue (x .agent .queue) ⌝ }
-    ensures { λ r. ⌜ verdictOf r ≡ acquired s k (x .present) (x .agent) p c m granted ⌝ }
+pub fn acquire_arrives(v: Site, p: Packet, c: ClientId, m: Mode, granted: bool) -> Effect
+    requires { ⌜ CanonicalQueue (v .slot .agent .queue) ⌝ }
+    ensures { λ r. ⌜ verdictOf r ≡ acquired (v .slot .present) v (v .slot .agent) p c m granted ⌝ }
 {
+    let x = v.slot;
     if x.present {
         if granted {
-            marked_arrives(s, k, x.agent, c)
+            marked_arrives(v, x.agent, c)
         } else {
-            unmarked_arrives(s, k, x.agent, c, m)
+            unmarked_arrives(v, x.agent, c, m)
         }
     } else {
-        sending(s, bounce(p))
+        sending(v, bounce(p))
     }
 }
 
-pub fn release_arrives(s: LockState, k: MachineId, x: AgentSlot, p: Packet, c: ClientId) -> Effect
-    requires { ⌜ CanonicalQueue (x .agent .queue) ⌝ }
-    ensures { λ r. ⌜ verdictOf r ≡ released s k x p c ⌝ }
+pub fn release_arrives(v: Site, p: Packet, c: ClientId) -> Effect
+    requires { ⌜ CanonicalQueue (v .slot .agent .queue) ⌝ }
+    ensures { λ r. ⌜ verdictOf r ≡ released v p c ⌝ }
 {
+    let x = v.slot;
     if listed(x, c) {
-        let clients = s.clients;
-        let d = ClientId(0);
-        leave(s, k, x.agent, c, d, status_at(clients, d))
+        leave(v, x.agent, c)
     } else {
-        sending(s, bounce(p))
+        sending(v, bounce(p))
     }
 }
 
 // A rejected FREE: the carried agent x is installed as carried.
-pub fn free_arrives(s: LockState, k: MachineId, here: bool, x: AgentSlot) -> Effect
-    ensures { λ r. ⌜ verdictOf r ≡ returned s k here x ⌝ }
+pub fn free_arrives(v: Site, here: bool, x: AgentSlot) -> Effect
+    ensures { λ r. ⌜ verdictOf r ≡ returned here v x ⌝ }
 {
     if here {
         cannot_place()
     } else {
-        seating(s, k, x, no_packet())
+        seating(v, x, no_packet())
     }
 }
 
-pub fn arrive(m: Message, s: LockState, k: MachineId, x: AgentSlot, p: Packet) -> Effect
-    requires { ⌜ (CanonicalQueue (x .agent .queue)) × (CanonicalQueue (p .carried .agent .queue)) ⌝ }
-    ensures { λ r. ⌜ verdictOf r ≡ arrives m s k x p ⌝ }
+pub fn arrive(m: Message, v: Site, p: Packet) -> Effect
+    requires { ⌜ (CanonicalQueue (v .slot .agent .queue)) × (CanonicalQueue (p .carried .agent .queue)) ⌝ }
+    ensures { λ r. ⌜ verdictOf r ≡ arrives m v p ⌝ }
 {
     match m {
-        Message::Free => free_arrives(s, k, x.present, p.carried),
+        Message::Free => free_arrives(v, v.slot.present, p.carried),
         Message::Acquire {
             client,
             mode,
             granted,
-        } => acquire_arrives(s, k, x, p, client, mode, granted),
+        } => acquire_arrives(v, p, client, mode, granted),
         Message::Grant { client, mode } => grant_arrives(
-            s,
-            k,
-            x.present,
+            v,
+            v.slot.present,
             p.carried,
             p.rejected,
             client,
             mode,
         ),
-        Message::Release { client } => release_arrives(s, k, x, p, client),
+        Message::Release { client } => release_arrives(v, p, client),
     }
 }
 
-pub fn at_machine(s: LockState, k: MachineId, p: Packet) -> Effect
-    requires { ⌜ (CanonicalQueue (agentOn s k .agent .queue)) × (CanonicalQueue (p .carried .agent .queue)) ⌝ }
-    ensures { λ r. ⌜ verdictOf r ≡ atMachine s k p ⌝ }
+pub fn at_machine(v: Site, p: Packet) -> Effect
+    requires { ⌜ (CanonicalQueue (v .slot .agent .queue)) × (CanonicalQueue (p .carried .agent .queue)) ⌝ }
+    ensures { λ r. ⌜ verdictOf r ≡ atMachine v p ⌝ }
 {
-    let agents = s.agents;
-    let x = agent_at(agents, k);
     let m = p.message;
-    arrive(m, s, k, x, p)
+    arrive(m, v, p)
 }

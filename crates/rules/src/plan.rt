@@ -5,7 +5,9 @@ use crate::effect::Sends;
 use crate::effect::cannot_place;
 use model::Address;
 use model::Answer;
+use model::ClientId;
 use model::LockState;
+use model::MachineId;
 use model::Message;
 use model::Mode;
 use model::Packet;
@@ -26,7 +28,7 @@ ghost use Rattle.model.specs.States.{wireOf, packets};
 ghost use Rattle.model.specs.Changes.{apply, refused, finish};
 ghost use Rattle.model.specs.AtMachine.{grantOf};
 ghost use Rattle.laws.specs.Shapes.{CanonicalWire};
-ghost use Rattle.rules.specs.Effects.{sentBy, changeOf, verdictOf};
+ghost use Rattle.rules.specs.Effects.{sentBy, verdictOf};
 ghost use Rattle.rules.specs.Plans.{leftBy, carriedOut, Plans};
 
 // How many of two packets a count means.
@@ -105,16 +107,17 @@ fn post(w: Wire, t: Sends) -> Wire
     }
 }
 
-fn apply(e: Effect, rest: Wire, s: LockState) -> LockState
+fn apply(k: MachineId, u: ClientId, e: Effect, rest: Wire, s: LockState) -> LockState
     requires { ⌜ (CanonicalWire rest) × (rest .len + length (sentBy (e .sends)) ≤ 33) ⌝ }
-    ensures { λ r. ⌜ r ≡ apply (changeOf e) (packets rest) s ⌝ }
+    ensures { λ r. ⌜ r ≡ apply k u (e .site) (sentBy (e .sends)) (packets rest) s ⌝ }
 {
-    let d = e.decider;
-    let st = e.status;
+    let v = e.site;
+    let d = v.decider;
+    let st = v.status;
     let agents = s.agents;
     let clients = s.clients;
-    let a = put_agent(agents, e.machine, e.slot);
-    let c = put_status(clients, e.client, st);
+    let a = put_agent(agents, k, v.slot);
+    let c = put_status(clients, u, st);
     let w = post(rest, e.sends);
     LockState {
         decider: d,
@@ -124,25 +127,29 @@ fn apply(e: Effect, rest: Wire, s: LockState) -> LockState
     }
 }
 
-// A step before it is made: its answer and, where that accepts, the index of the packet that it takes off the wire and its effect. An index past the
+// A step before it is made: its answer and, where that accepts, the index of the packet that it takes off the wire, the machine and the client that it is about, and its effect. An index past the
 // wire's end takes none off.
 pub struct Plan {
     pub answer: Answer,
     pub index: u8,
+    pub machine: MachineId,
+    pub client: ClientId,
     pub effect: Effect,
 }
 
 // Refusals 9 and 10; n packets stay on the wire.
-pub fn judge(e: Effect, i: u8, n: u8) -> Plan
+pub fn judge(k: MachineId, u: ClientId, e: Effect, i: u8, n: u8) -> Plan
     requires { ⌜ n ≤ 33 ⌝ }
-    ensures { λ r. ⌜ ((s : LockState) → length (removed (packets (s .wire)) i) ≡ n → Plans r s (finish (verdictOf e) (removed (packets (s .wire)) i) s)) ⌝ }
+    ensures { λ r. ⌜ ((s : LockState) → length (removed (packets (s .wire)) i) ≡ n → Plans r s (finish k u (verdictOf e) (removed (packets (s .wire)) i) s)) ⌝ }
 {
     if e.placed {
-        let k = sent_count(e.sends);
-        if n + k <= 33 {
+        let m = sent_count(e.sends);
+        if n + m <= 33 {
             Plan {
                 answer: Answer::Accepted,
                 index: i,
+                machine: k,
+                client: u,
                 effect: e,
             }
         } else {
@@ -160,6 +167,8 @@ pub fn refuse(n: Refusal) -> Plan
     Plan {
         answer: Answer::Refused(n),
         index: 33,
+        machine: MachineId(0),
+        client: ClientId(0),
         effect: e,
     }
 }
@@ -169,5 +178,5 @@ pub fn carry_out(p: Plan, s: LockState) -> LockState
     requires { ⌜ (CanonicalWire (s .wire)) × (length (leftBy p s) + length (sentBy (p .effect .sends)) ≤ 33) ⌝ }
     ensures { λ r. ⌜ r ≡ carriedOut p s ⌝ }
 {
-    apply(p.effect, take_off(s.wire, p.index), s)
+    apply(p.machine, p.client, p.effect, take_off(s.wire, p.index), s)
 }

@@ -2,6 +2,7 @@
 use crate::asking::acquire;
 use crate::decider::at_decider;
 use crate::effect::Effect;
+use crate::leaving::machine_of;
 use crate::leaving::release;
 use crate::machine::at_machine;
 use crate::plan::Plan;
@@ -10,24 +11,46 @@ use model::Address;
 use model::ClientId;
 use model::LockState;
 use model::MachineId;
+use model::Message;
 use model::Mode;
 use model::Packet;
+use model::Site;
+use parts::state::agent_at;
+use parts::state::status_at;
 use parts::wire::packet_at;
 ghost use mathlib.Core.Path.{_≡_};
 ghost use Prim.Native.Nat.{_<_};
-ghost use Rattle.model.specs.States.{agentOn};
-ghost use Rattle.model.specs.Calls.{delivers, acquireStep, releaseStep, deliverStep};
+ghost use Rattle.model.specs.Changes.{siteOf};
+ghost use Rattle.model.specs.Calls.{machineAt, clientNamed, delivers, acquireStep, releaseStep, deliverStep};
 ghost use Rattle.laws.specs.Shapes.{CanonicalQueue};
 ghost use Rattle.laws.specs.Formed.{Ready};
 ghost use Rattle.rules.specs.Effects.{verdictOf};
 ghost use Rattle.rules.specs.Plans.{Plans};
 
+// The site of machine k and client c.
+pub fn site_of(s: LockState, k: MachineId, c: ClientId) -> Site
+    ensures { λ r. ⌜ r ≡ siteOf s k c ⌝ }
+{
+    let d = s.decider;
+    let agents = s.agents;
+    let clients = s.clients;
+    let x = agent_at(agents, k);
+    let st = status_at(clients, c);
+    Site {
+        decider: d,
+        slot: x,
+        status: st,
+    }
+}
+
 pub fn plan_acquire(s: LockState, c: ClientId, m: Mode) -> Plan
     requires { ⌜ Ready s ⌝ }
     ensures { λ r. ⌜ Plans r s (acquireStep s c m) ⌝ }
 {
-    let e = acquire(s, c, m);
-    judge(e, 33, s.wire.len)
+    let k = machine_of(c);
+    let v = site_of(s, k, c);
+    let e = acquire(v, c, m);
+    judge(k, c, e, 33, s.wire.len)
 }
 
 // A client that holds releases.
@@ -35,18 +58,45 @@ pub fn plan_release(s: LockState, c: ClientId) -> Plan
     requires { ⌜ Ready s ⌝ }
     ensures { λ r. ⌜ Plans r s (releaseStep s c) ⌝ }
 {
-    let e = release(s, c);
-    judge(e, 33, s.wire.len)
+    let k = machine_of(c);
+    let v = site_of(s, k, c);
+    let e = release(v, c);
+    judge(k, c, e, 33, s.wire.len)
+}
+
+// The machine and the client that a delivery is about.
+pub fn machine_at(to: Address) -> MachineId
+    ensures { λ r. ⌜ r ≡ machineAt to ⌝ }
+{
+    match to {
+        Address::Decider => MachineId(0),
+        Address::Machine(k) => k,
+    }
+}
+
+pub fn client_named(m: Message) -> ClientId
+    ensures { λ r. ⌜ r ≡ clientNamed m ⌝ }
+{
+    match m {
+        Message::Free => ClientId(0),
+        Message::Acquire {
+            client,
+            mode: _,
+            granted: _,
+        } => client,
+        Message::Grant { client, mode: _ } => client,
+        Message::Release { client } => client,
+    }
 }
 
 // The packet p is delivered at its address.
-pub fn deliver(to: Address, s: LockState, p: Packet) -> Effect
-    requires { ⌜ ((k : MachineId) → CanonicalQueue (agentOn s k .agent .queue)) × (CanonicalQueue (p .carried .agent .queue)) ⌝ }
-    ensures { λ r. ⌜ verdictOf r ≡ delivers to s p ⌝ }
+pub fn deliver(to: Address, v: Site, p: Packet) -> Effect
+    requires { ⌜ (CanonicalQueue (v .slot .agent .queue)) × (CanonicalQueue (p .carried .agent .queue)) ⌝ }
+    ensures { λ r. ⌜ verdictOf r ≡ delivers to v p ⌝ }
 {
     match to {
-        Address::Decider => at_decider(s, p),
-        Address::Machine(k) => at_machine(s, k, p),
+        Address::Decider => at_decider(v, p),
+        Address::Machine(_) => at_machine(v, p),
     }
 }
 
@@ -56,6 +106,10 @@ pub fn plan_deliver(s: LockState, i: u8) -> Plan
 {
     let p = packet_at(s.wire, i);
     let to = p.to;
-    let e = deliver(to, s, p);
-    judge(e, i, s.wire.len - 1)
+    let m = p.message;
+    let k = machine_at(to);
+    let c = client_named(m);
+    let v = site_of(s, k, c);
+    let e = deliver(to, v, p);
+    judge(k, c, e, i, s.wire.len - 1)
 }

@@ -1,9 +1,9 @@
 -- Every step at the decider can be placed and keeps the invariant.
-use Rattle.theorems.specs.Names.{MachineId, ClientId, Mode, Exclusive, Shared, Owner, Unowned, Owned, Agent, Address, ToDecider, ToMachine, Message, Free, Acquire, Grant, Release, Packet, Status, Idle, Waiting, Holding, LockState, _≡_, refl, sym, Bool, true, false, _&&_, not, List, [], _∷_, ℕ, _+_, _≤_, _<_, _/_, _%_, arith, length, List·getD-eq-default, set-getD, ltb, eqb-true, eqb-false, eq-eqb, ltb-true, ltb-false, pick, all, machineOf, noHolders, newAgent, seated, unowned, waiters, noAgent, packets, Change, does, apply, deciding, changed, lists, granting, grantsFirst, shares, current, rejecting, passesOn, toOwner, decidesAcquire, decidesFree, decidesGrant, decides, and-left, and-right, both, bool-cases, waiters-of}
+use Rattle.theorems.specs.Names.{MachineId, ClientId, Mode, Exclusive, Shared, Owner, Unowned, Owned, Agent, Address, ToDecider, ToMachine, Message, Free, Acquire, Grant, Release, Packet, Status, Idle, Waiting, Holding, LockState, _≡_, refl, sym, Bool, true, false, _&&_, not, List, [], _∷_, ℕ, _+_, _≤_, _<_, _/_, _%_, arith, length, List·getD-eq-default, set-getD, ltb, eqb-true, eqb-false, eq-eqb, ltb-true, ltb-false, pick, all, machineOf, noHolders, newAgent, seated, packet, unowned, waiters, noAgent, packets, Site, siteOf, withDecider, does, apply, changed, lists, granting, grantsFirst, shares, current, rejecting, passesOn, toOwner, decidesAcquire, decidesFree, decidesGrant, decides, and-left, and-right, both, bool-cases, waiters-of}
 use Rattle.theorems.specs.Tally.{flag, tally, tally-at, tally-le, tally-none, tally-add, sumTo, sum-swap, sum-le, sum-one}
 use Rattle.theorems.specs.Weights.{statusAt, slotAt, weight, one, askM, queuedS, waitingP, markM, listedS, listedP, owedM, owedP, releaseM, releaseP, agentS, agentP, incarnationS, incarnationP, markAll, markP, rejectedP, vacantS, holdF, ownedF, clash, farM, farP, farF, ownedMode, misfitS, fitsAway, fitsFree, inRange, fits, misfitP}
 use Rattle.theorems.specs.Invariant.{Inv}
-use Rattle.theorems.specs.Keep.{Split, keep-step, framed, status-same, keep-calm, vacancy-by, keep-sent-on}
+use Rattle.theorems.specs.Keep.{Split, keep-step, framed, told, untold, keep-calm, vacancy-by, keep-sent-on}
 use Rattle.theorems.specs.Facts.{fit, Zero, absent, nobody, came-fits, near-owner, near-home, named-of, Plain, plain-acquire, Away, away-of, away-fits, owes, absent-of, silent-free, silent-equal, free-inc, same-mode, no-others, differ}
 use Rattle.theorems.specs.Sent.{Good, made, plain-any, acquire-any, release-any, no-marked, no-release, no-free, no-offer, no-freed, impossible, keep-on}
 
@@ -140,9 +140,6 @@ module _ (r : LockState) (p : Packet) (rest : List Packet) (i : Inv r) (sp : Spl
   unfolding weight tally
   none-rejected = omega (arith, i .vacancy, silent, sp .parts rejectedP)
 
-  abbrev change : Owner → ℕ → List Packet → Change
-  change o n qs = deciding r (record { owner = o; incarnation = n }) qs
-
   pub record Reowned (o : Owner) (n : ℕ) (qs : List Packet) : Type 0 where
     pub waits : (d : ℕ) (m : Mode) → waitingP d m p ≡ tally (waitingP d m) qs
     pub lists : (d : ℕ) → tally (listedP d) qs ≡ 0
@@ -155,26 +152,27 @@ module _ (r : LockState) (p : Packet) (rest : List Packet) (i : Inv r) (sp : Spl
     pub reach : farF o + tally farP qs ≡ 0
     pub fitting : tally (misfitP o) qs ≡ 0
 
-  pub keep-reowned : (o : Owner) (n : ℕ) (qs : List Packet) → Reowned o n qs → Inv (apply (change o n qs) rest r)
+  pub keep-reowned : (j : MachineId) (u : ClientId) → j .0 < 4 → (o : Owner) (n : ℕ) (qs : List Packet) → Reowned o n qs
+      → Inv (apply j u (withDecider (siteOf r j u) (record { owner = o; incarnation = n })) qs rest r)
   unfolding tally
-  keep-reowned o n qs l =
-      let same : (d : ℕ) → statusAt (apply (change o n qs) rest r) d ≡ statusAt r d = status-same (change o n qs) rest r refl in
-      keep-step r o (slotAt r 0) (change o n qs) (p ∷ []) rest i
+  keep-reowned j u jj o n qs l =
+      let same : (d : ℕ) → told r u (statusAt r (u .0)) d ≡ statusAt r d = untold r u in
+      keep-step r j u o (slotAt r (j .0)) _ (p ∷ []) qs rest i
       (record {
         split = sp;
-        machine = omega arith;
+        machine = jj;
         owner = refl;
         seat = refl;
         waits = λ d m. rw (same d) (omega (arith, l .waits d m));
         holds = λ d. rw (same d) (omega (arith, l .lists d, l .owes d, p-lists d, owes-none d, sp .parts (owedP d)));
         rels = λ d. rw (same d) (omega (arith, l .rels d, i .rels d, sp .parts (releaseP d)));
         agent = omega (arith, l .agent, all);
-        incs = λ x h. omega (arith, l .marks, l .incs (x + incarnationS (slotAt r 0)) (omega (arith, silent, sp .parts markP)));
+        incs = λ x h. omega (arith, l .marks, l .incs (x + incarnationS (slotAt r (j .0))) (omega (arith, silent, sp .parts markP)));
         modes = λ d. rw (same d) (any-mode o d);
         fitting = omega (arith, any-fits o, l .fitting);
-        homes = λ k. rw (set-getD (r .agents) 0 noAgent) (any-seat o k);
+        homes = λ k. rw (set-getD (r .agents) (j .0) noAgent) (any-seat o k);
         reach = l .reach;
-        vacancy = rw (set-getD (r .agents) 0 noAgent) (omega (arith, none-rejected, l .unrejected));
+        vacancy = rw (set-getD (r .agents) (j .0) noAgent) (omega (arith, none-rejected, l .unrejected));
       })
 
 -- what is known of a GRANT with an agent at the decider
@@ -183,16 +181,21 @@ record Offer (o : Owner) (c : ClientId) (a : Agent) : Type 0 where
   mode : ownedMode o (a .mode) ≡ true
   away : fitsAway a ≡ true
 
-module _ (r : LockState) (rest : List Packet) (i : Inv r) where
+-- ---- a step that is about machine j and client u
+module _ (r : LockState) (rest : List Packet) (i : Inv r) (j : MachineId) (u : ClientId) (jj : j .0 < 4) where
+  -- the site before it
+  abbrev site : Site
+  site = siteOf r j u
+
   -- ---- an ACQUIRE at a free lock
   pub keep-first : (c : ClientId) (m : Mode) (b x : Bool) (a : Agent) → r .decider .owner ≡ Unowned
-      → Split r (made (Acquire c m false) ToDecider b x a ∷ []) rest → Inv (apply (grantsFirst r c m) rest r)
+      → Split r (made (Acquire c m false) ToDecider b x a ∷ []) rest → Good r j u rest (grantsFirst site c m)
   unfolding tally askM markM owedM releaseM markAll queuedS listedS agentS incarnationS misfitP fits ownedF fitsAway
   keep-first c m b x a o sp =
       let pl : Plain c (record { present = x; agent = a }) = plain-acquire i sp in
       let z : Zero (record { present = x; agent = a }) = pl .none in
       let al : agentS (record { present = x; agent = a }) ≡ ownedF (r .decider .owner) = rw o (z .agentS) in
-      keep-reowned r _ rest i sp al (silent-free r i o) (λ d. omega (arith, z .listedS d)) (Owned m (machineOf c)) 0 (granting c m (newAgent m) ∷ [])
+      keep-reowned r _ rest i sp al (silent-free r i o) (λ d. omega (arith, z .listedS d)) j u jj (Owned m (machineOf c)) 0 (granting c m (newAgent m) ∷ [])
       (record {
         waits = λ d n. rw (waiters-of []) (omega (arith, z .queuedS d n));
         lists = λ d. omega (arith, nobody noHolders d refl);
@@ -208,14 +211,15 @@ module _ (r : LockState) (rest : List Packet) (i : Inv r) where
 
   -- ---- an ACQUIRE, lock and request both shared
   pub keep-shares : (c : ClientId) (k : MachineId) (b x : Bool) (a : Agent) → r .decider .owner ≡ Owned Shared k
-      → Split r (made (Acquire c Shared false) ToDecider b x a ∷ []) rest → Inv (apply (shares r c k) rest r)
+      → Split r (made (Acquire c Shared false) ToDecider b x a ∷ []) rest → Good r j u rest (shares site c k)
   unfolding tally askM markM owedM releaseM markAll queuedS listedS agentS incarnationS misfitP fits noAgent
   keep-shares c k b x a o sp =
       let pl : Plain c (record { present = x; agent = a }) = plain-acquire i sp in
       let z : Zero (record { present = x; agent = a }) = pl .none in
-      keep-calm r (Owned Shared k) (slotAt r 0) (shares r c k) _ rest i
+      let qs : List Packet = packet (Grant c Shared) (ToMachine (machineOf c)) ∷ packet (Acquire c Shared true) (ToMachine k) ∷ [] in
+      keep-calm r j u (Owned Shared k) (slotAt r (j .0)) _ _ qs rest i
       (record {
-        frame = framed sp (omega arith) refl o o;
+        frame = framed sp jj refl o o;
         status = refl;
         waits = λ d m. omega (arith, z .queuedS d m);
         holds = λ d. omega (arith, z .listedS d);
@@ -223,9 +227,9 @@ module _ (r : LockState) (rest : List Packet) (i : Inv r) where
         agent = omega (arith, z .agentS);
         incs = λ x h. omega (arith, z .incarnationS);
         fitting = rw (pl .named);
-        slot = rw o at (i .homes 0);
+        slot = rw o at (i .homes (j .0));
         reach = omega (arith, near-home c (pl .below), near-owner r Shared k i o);
-        vacancy = vacancy-by r (slotAt r 0) (slotAt r 0) 0 _ rest (shares r c k .sends) i sp (omega arith) refl (omega arith);
+        vacancy = vacancy-by r (slotAt r (j .0)) (slotAt r (j .0)) (j .0) _ rest qs i sp jj refl (omega arith);
       })
 
   -- ---- a FREE, a GRANT with agent
@@ -247,11 +251,11 @@ module _ (r : LockState) (rest : List Packet) (i : Inv r) where
       record { named = and-left (ltb (c .0) 16) _ f; mode = and-left (ownedMode (r .decider .owner) (a .mode)) _ g; away = and-right (ownedMode (r .decider .owner) (a .mode)) _ g }
 
   keep-freed : (b : Bool) (a : Agent) → ownedF (r .decider .owner) ≡ 1 → a .incarnation ≡ r .decider .incarnation
-      → Split r (made Free ToDecider b true a ∷ []) rest → Inv (apply (deciding r unowned []) rest r)
+      → Split r (made Free ToDecider b true a ∷ []) rest → Inv (apply j u (withDecider site unowned) [] rest r)
   unfolding tally askM markM owedM releaseM markAll queuedS listedS agentS incarnationS ownedF waiters
   keep-freed b a ow e sp =
       let aw : Away a × (a .queue .len ≡ 0) = free-away b a sp in
-      keep-reowned r _ rest i sp (sym ow) (silent-equal r _ rest i sp refl e) (λ d. omega (arith, nobody (a .holders) d (aw .0 .empty))) Unowned 0 []
+      keep-reowned r _ rest i sp (sym ow) (silent-equal r _ rest i sp refl e) (λ d. omega (arith, nobody (a .holders) d (aw .0 .empty))) j u jj Unowned 0 []
       (record {
         waits = λ d n. rw (waiters, aw .1);
         lists = λ d. refl;
@@ -266,14 +270,14 @@ module _ (r : LockState) (rest : List Packet) (i : Inv r) where
       })
 
   keep-passed-on : (c : ClientId) (m : Mode) (b : Bool) (a : Agent) → ownedF (r .decider .owner) ≡ 1 → a .incarnation ≡ r .decider .incarnation
-      → Split r (made (Grant c m) ToDecider b true a ∷ []) rest → Inv (apply (passesOn r c m a) rest r)
+      → Split r (made (Grant c m) ToDecider b true a ∷ []) rest → Good r j u rest (passesOn site c m a)
   unfolding tally askM markM owedM releaseM markAll queuedS listedS agentS incarnationS misfitP fits ownedF
   keep-passed-on c m b a ow e sp =
       let of : Offer (r .decider .owner) c a = came-grant c m b a sp in
       let aw : Away a = away-of a (of .away) in
       let anew : Agent = changed a (a .holders) (a .queue) 0 in
       let re : fitsAway anew ≡ true = away-fits anew (record { sized = aw .sized; empty = aw .empty; small = omega arith }) in
-      keep-reowned r _ rest i sp (sym ow) (silent-equal r _ rest i sp refl e) (λ d. omega (arith, nobody (a .holders) d (aw .empty))) (Owned m (machineOf c)) 0 (granting c m anew ∷ [])
+      keep-reowned r _ rest i sp (sym ow) (silent-equal r _ rest i sp refl e) (λ d. omega (arith, nobody (a .holders) d (aw .empty))) j u jj (Owned m (machineOf c)) 0 (granting c m anew ∷ [])
       (record {
         waits = λ d n. omega arith;
         lists = λ d. omega (arith, nobody (a .holders) d (aw .empty));
@@ -290,20 +294,20 @@ module _ (r : LockState) (rest : List Packet) (i : Inv r) where
   -- the incarnations differ: some mark is on the wire
   keep-rejected : (m : Message) (b : Bool) (a : Agent) (o : Mode) (k : MachineId) → r .decider .owner ≡ Owned o k → a .incarnation < 256
       → (a .incarnation ≡ r .decider .incarnation → ⊥) → fits (Owned o k) true (ToMachine k) true a m ≡ true
-      → Split r (made m ToDecider b true a ∷ []) rest → Inv (apply (rejecting r (made m ToDecider b true a) k) rest r)
+      → Split r (made m ToDecider b true a ∷ []) rest → Good r j u rest (rejecting site (made m ToDecider b true a) k)
   unfolding misfitP agentS incarnationS
   keep-rejected m b a o k eo s n f sp =
-      keep-sent-on r rest i m ToDecider (ToMachine k) b true (seated a) sp (rw (eo, f))
+      keep-sent-on r j u jj rest i m ToDecider (ToMachine k) b true (seated a) sp (rw (eo, f))
       (omega (arith, no-others r _ rest i sp refl, differ r _ rest i sp refl s n)) (near-owner r o k i eo)
 
   keep-free-rejected : (b : Bool) (a : Agent) (o : Mode) (k : MachineId) → r .decider .owner ≡ Owned o k → (a .incarnation ≡ r .decider .incarnation → ⊥)
-      → Split r (made Free ToDecider b true a ∷ []) rest → Inv (apply (rejecting r (made Free ToDecider b true a) k) rest r)
+      → Split r (made Free ToDecider b true a ∷ []) rest → Good r j u rest (rejecting site (made Free ToDecider b true a) k)
   unfolding fits
   keep-free-rejected b a o k e n sp =
       keep-rejected Free b a o k e (free-away b a sp .0 .small) n (both _ _ (eq-eqb (k .0) (k .0) refl) (rw e at (came-free b a sp))) sp
 
   keep-grant-rejected : (c : ClientId) (m : Mode) (b : Bool) (a : Agent) (o : Mode) (k : MachineId) → r .decider .owner ≡ Owned o k → (a .incarnation ≡ r .decider .incarnation → ⊥)
-      → Split r (made (Grant c m) ToDecider b true a ∷ []) rest → Inv (apply (rejecting r (made (Grant c m) ToDecider b true a) k) rest r)
+      → Split r (made (Grant c m) ToDecider b true a ∷ []) rest → Good r j u rest (rejecting site (made (Grant c m) ToDecider b true a) k)
   unfolding fits
   keep-grant-rejected c m b a o k e n sp =
       let of : Offer (Owned o k) c a = rw e at (came-grant c m b a sp) in
@@ -319,30 +323,30 @@ module _ (r : LockState) (rest : List Packet) (i : Inv r) where
   near-grant c m b a sp = near-home c (ltb-true (c .0) 16 (named-of (r .decider .owner) false ToDecider b a (Grant c m) (fit _ (came-fits r rest _ i sp))))
 
   pub good-decides : (m : Message) (o : Owner) (b x : Bool) (a : Agent) → r .decider .owner ≡ o → Split r (made m ToDecider b x a ∷ []) rest
-      → Good r rest (decides m o r (made m ToDecider b x a))
+      → Good r j u rest (decides m o site (made m ToDecider b x a))
   unfolding decides decidesAcquire decidesFree decidesGrant toOwner
   good-decides (Acquire c m false) Unowned b x a e sp = keep-first c m b x a e sp
   good-decides (Acquire c m true) Unowned b x a e sp = impossible r rest i _ sp (rw e (no-marked x ToDecider b a c m Unowned refl))
   good-decides (Acquire c Shared false) (Owned Shared k) b x a e sp = keep-shares c k b x a e sp
-  good-decides (Acquire c Shared false) (Owned Exclusive k) b x a e sp = keep-on r rest i (Acquire c Shared false) _ _ b x a (acquire-any _ _ b a x c Shared false) (near-owner r _ k i e) sp
-  good-decides (Acquire c Exclusive false) (Owned Shared k) b x a e sp = keep-on r rest i (Acquire c Exclusive false) _ _ b x a (acquire-any _ _ b a x c Exclusive false) (near-owner r _ k i e) sp
-  good-decides (Acquire c Exclusive false) (Owned Exclusive k) b x a e sp = keep-on r rest i (Acquire c Exclusive false) _ _ b x a (acquire-any _ _ b a x c Exclusive false) (near-owner r _ k i e) sp
-  good-decides (Acquire c m true) (Owned o k) b x a e sp = keep-on r rest i (Acquire c m true) _ _ b x a (acquire-any _ _ b a x c m true) (near-owner r _ k i e) sp
+  good-decides (Acquire c Shared false) (Owned Exclusive k) b x a e sp = keep-on r rest i j u jj (Acquire c Shared false) _ _ b x a (acquire-any _ _ b a x c Shared false) (near-owner r _ k i e) sp
+  good-decides (Acquire c Exclusive false) (Owned Shared k) b x a e sp = keep-on r rest i j u jj (Acquire c Exclusive false) _ _ b x a (acquire-any _ _ b a x c Exclusive false) (near-owner r _ k i e) sp
+  good-decides (Acquire c Exclusive false) (Owned Exclusive k) b x a e sp = keep-on r rest i j u jj (Acquire c Exclusive false) _ _ b x a (acquire-any _ _ b a x c Exclusive false) (near-owner r _ k i e) sp
+  good-decides (Acquire c m true) (Owned o k) b x a e sp = keep-on r rest i j u jj (Acquire c m true) _ _ b x a (acquire-any _ _ b a x c m true) (near-owner r _ k i e) sp
   good-decides (Release c) Unowned b x a e sp = impossible r rest i _ sp (rw e (no-release x ToDecider b a c))
-  good-decides (Release c) (Owned o k) b x a e sp = keep-on r rest i (Release c) _ _ b x a (release-any _ _ b a x c) (near-owner r _ k i e) sp
+  good-decides (Release c) (Owned o k) b x a e sp = keep-on r rest i j u jj (Release c) _ _ b x a (release-any _ _ b a x c) (near-owner r _ k i e) sp
   good-decides Free Unowned b true a e sp = impossible r rest i _ sp (rw e (no-freed b a))
   good-decides Free Unowned b false a e sp = impossible r rest i _ sp (no-free _ ToDecider b a)
   good-decides Free (Owned o k) b false a e sp = impossible r rest i _ sp (no-free _ ToDecider b a)
-  good-decides Free (Owned o k) b true a e sp = go (current r (made Free ToDecider b true a)) refl
+  good-decides Free (Owned o k) b true a e sp = go (current (r .decider) (made Free ToDecider b true a)) refl
     where
-      go : (t : Bool) → current r (made Free ToDecider b true a) ≡ t → Good r rest (pick t (does (deciding r unowned [])) (does (rejecting r (made Free ToDecider b true a) k)))
+      go : (t : Bool) → current (r .decider) (made Free ToDecider b true a) ≡ t → Good r j u rest (pick t (does (withDecider site unowned) []) (rejecting site (made Free ToDecider b true a) k))
       go true q = keep-freed b a (owned-is o k e) (eqb-true _ _ q) sp
       go false q = keep-free-rejected b a o k e (eqb-false _ _ q) sp
-  good-decides (Grant c m) o b false a e sp = keep-on r rest i (Grant c m) _ _ b false a (plain-any _ _ b a (Grant c m)) (near-grant c m b a sp) sp
+  good-decides (Grant c m) o b false a e sp = keep-on r rest i j u jj (Grant c m) _ _ b false a (plain-any _ _ b a (Grant c m)) (near-grant c m b a sp) sp
   good-decides (Grant c m) Unowned b true a e sp = impossible r rest i _ sp (rw e (no-offer b a c m))
-  good-decides (Grant c m) (Owned o k) b true a e sp = go (current r (made (Grant c m) ToDecider b true a)) refl
+  good-decides (Grant c m) (Owned o k) b true a e sp = go (current (r .decider) (made (Grant c m) ToDecider b true a)) refl
     where
-      go : (t : Bool) → current r (made (Grant c m) ToDecider b true a) ≡ t
-          → Good r rest (pick t (does (passesOn r c m a)) (does (rejecting r (made (Grant c m) ToDecider b true a) k)))
+      go : (t : Bool) → current (r .decider) (made (Grant c m) ToDecider b true a) ≡ t
+          → Good r j u rest (pick t (passesOn site c m a) (rejecting site (made (Grant c m) ToDecider b true a) k))
       go true q = keep-passed-on c m b a (owned-is o k e) (eqb-true _ _ q) sp
       go false q = keep-grant-rejected c m b a o k e (eqb-false _ _ q) sp

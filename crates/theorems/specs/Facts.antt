@@ -1,9 +1,9 @@
 -- What the invariant gives: of packets, of agents, of counts.
-use Rattle.theorems.specs.Names.{MachineId, ClientId, Mode, Exclusive, Shared, Owner, Unowned, Owned, Waiter, Agent, AgentSlot, Address, Message, Free, Acquire, Grant, Release, Packet, Status, Idle, Waiting, Holding, LockState, _≡_, refl, sym, ap, _∙_, Bool, true, false, _&&_, not, and-false, false≢true, List, [], _∷_, ℕ, _+_, _*_, _≤_, _<_, _/_, arith, ℕ-discrete, length, getD, set, length-set, List·getD-eq-default, getD-set-same, getD-set-other, eqb, ltb, eqb-true, eq-eqb, ne-eqb, ltb-true, ltb-false, lt-ltb, leb-true, le-leb, seated, idle, noAgent, packets, Change, apply, changed, and-left, and-right, bool-cases}
+use Rattle.theorems.specs.Names.{MachineId, ClientId, Mode, Exclusive, Shared, Owner, Unowned, Owned, Waiter, Agent, AgentSlot, Address, Message, Free, Acquire, Grant, Release, Packet, Status, Idle, Waiting, Holding, LockState, _≡_, refl, sym, ap, _∙_, Bool, true, false, _&&_, not, and-false, false≢true, List, [], _∷_, ℕ, _+_, _*_, _≤_, _<_, _/_, arith, ℕ-discrete, length, getD, set, length-set, List·getD-eq-default, getD-set-same, getD-set-other, eqb, ltb, eqb-true, eq-eqb, ne-eqb, ltb-true, ltb-false, lt-ltb, leb-true, le-leb, seated, idle, noAgent, packets, changed, and-left, and-right, bool-cases}
 use Rattle.theorems.specs.Tally.{flag, tally, tally-set, tally-at, tally-le, tally-none, tally-add, tally-length, sumTo, sum-swap, sum-le, sum-ext, sum-one}
 use Rattle.theorems.specs.Weights.{statusAt, slotAt, weight, sameMode, one, hit, hitW, askM, queuedS, waitingP, markM, listedS, listedP, owedM, owedP, releaseM, releaseP, agentS, agentP, incarnationS, incarnationP, markAll, markP, rejectedP, heads, vacantS, waitF, holdF, idleF, ownedF, clash, farM, farF, ownedShared, ownedMode, ownedAt, few, fitsHome, misfitS, fitsAway, inRange, fits, misfitP}
 use Rattle.theorems.specs.Invariant.{Inv}
-use Rattle.theorems.specs.Keep.{Split}
+use Rattle.theorems.specs.Keep.{Split, told}
 
 -- ---- tests: from a count of misfits to the test
 pub fit : (b : Bool) → flag (not b) ≡ 0 → b ≡ true
@@ -152,14 +152,13 @@ few-less Exclusive x y h e = le-leb y 1 (omega (arith, leb-true x 1 e))
 few-less Shared x y h e = refl
 
 -- ---- a client's status after a step, as a number
-pub status-move : (F : Status → ℕ) (ch : Change) (rest : List Packet) (r : LockState) → ch .client .0 < length (r .clients) → (d : ℕ)
-    → F (statusAt (apply ch rest r) d) + flag (eqb (ch .client .0) d) * F (statusAt r (ch .client .0)) ≡ F (statusAt r d) + flag (eqb (ch .client .0) d) * F (ch .status)
-status-move F ch rest r h d = go (ℕ-discrete d (ch .client .0))
+pub status-move : (F : Status → ℕ) (r : LockState) (c : ClientId) (st : Status) → c .0 < length (r .clients) → (d : ℕ)
+    → F (told r c st d) + flag (eqb (c .0) d) * F (statusAt r (c .0)) ≡ F (statusAt r d) + flag (eqb (c .0) d) * F st
+status-move F r c st h d = go (ℕ-discrete d (c .0))
   where
-    go : Dec (d ≡ ch .client .0)
-        → F (statusAt (apply ch rest r) d) + flag (eqb (ch .client .0) d) * F (statusAt r (ch .client .0)) ≡ F (statusAt r d) + flag (eqb (ch .client .0) d) * F (ch .status)
-    go (yes q) = rw (q, eq-eqb (ch .client .0) (ch .client .0) refl, statusAt, getD-set-same (r .clients) (ch .client .0) (record { status = ch .status }) idle h) (omega arith)
-    go (no n) = rw (ne-eqb (ch .client .0) d (λ q. n (sym q)), statusAt, getD-set-other (r .clients) (ch .client .0) d (record { status = ch .status }) idle n) (omega arith)
+    go : Dec (d ≡ c .0) → F (told r c st d) + flag (eqb (c .0) d) * F (statusAt r (c .0)) ≡ F (statusAt r d) + flag (eqb (c .0) d) * F st
+    go (yes q) = rw (q, eq-eqb (c .0) (c .0) refl, told, getD-set-same (r .clients) (c .0) (record { status = st }) idle h) (omega arith)
+    go (no n) = rw (ne-eqb (c .0) d (λ q. n (sym q)), told, getD-set-other (r .clients) (c .0) d (record { status = st }) idle n) (omega arith)
 
 -- ---- who waits is a client
 pub far-idle : (r : LockState) (d : ℕ) → Inv r → 16 ≤ d → statusAt r d ≡ Idle

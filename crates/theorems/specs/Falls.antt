@@ -1,6 +1,6 @@
 -- Each step of a drain lowers the rank: the delivery of the first packet lowers the work, or sends the packet on with fewer hops; a release lowers
 -- the work. Every rule is looked at in its own clauses; the invariant is not needed for that.
-use Rattle.theorems.specs.Names.{MachineId, ClientId, Mode, Shared, Owner, Unowned, Owned, Waiter, Agent, AgentSlot, Address, ToDecider, ToMachine, Message, Free, Acquire, Grant, Release, Packet, Idle, Holding, LockState, _≡_, refl, ap, _∙_, Bool, true, false, _&&_, true≢false, false≢true, List, [], _∷_, _++_, map, ℕ, _+_, _*_, _≤_, _<_, arith, length, getD, set, length-append, List·getD-eq-default, set-getD, ltb, eqb-true, eq-eqb, ltb-true, ltb-false, pick, removed, machineOf, isShared, newAgent, seated, agentOn, listed, statusOf, packet, unowned, waiters, noAgent, packets, Change, cannot-place, does, apply, client0, sending, deciding, seating, telling, changed, joining, queuing, noRoom, withRoom, mayJoin, anyHolder, without, slotLeft, sendsLeft, lists, handOver, leaves, releases, next, sentOn, grantsFirst, shares, current, rejecting, passesOn, toOwner, decidesAcquire, decidesFree, decidesGrant, decides, atDecider, bounces, grantOf, installed, requeued, admitted, staying, joined, installs, granted, marked, unmarked, acquired, released, returned, arrives, atMachine, delivers, releaseStep, deliverStep, and-left, and-right, bool-cases, packets-of, waiters-of}
+use Rattle.theorems.specs.Names.{MachineId, ClientId, Mode, Shared, Owner, Unowned, Owned, Waiter, Agent, AgentSlot, Address, ToDecider, ToMachine, Message, Free, Acquire, Grant, Release, Packet, Idle, Holding, LockState, _≡_, refl, sym, ap, _∙_, Bool, true, false, _&&_, true≢false, false≢true, List, [], _∷_, _++_, map, ℕ, _+_, _*_, _≤_, _<_, arith, length, getD, set, length-append, List·getD-eq-default, set-getD, ltb, eqb-true, eq-eqb, ltb-true, ltb-false, pick, removed, machineOf, isShared, newAgent, seated, agentOn, listed, statusOf, packet, unowned, waiters, noAgent, packets, Site, siteOf, withDecider, withSlot, withStatus, cannot-place, does, apply, changed, joining, queuing, noRoom, withRoom, mayJoin, anyHolder, without, lists, handOver, staysIf, leaves, releases, next, sentOn, shares, current, rejecting, passesOn, toOwner, decidesAcquire, decidesFree, decidesGrant, decides, atDecider, bounces, grantOf, installed, requeued, admitted, staying, joined, installs, granted, marked, unmarked, acquired, released, returned, arrives, atMachine, machineAt, clientNamed, delivers, releaseStep, takes, deliverStep, and-left, and-right, bool-cases, packets-of, waiters-of}
 use Rattle.theorems.specs.Tally.{flag, tally, tally-one, tally-set, tally-length}
 use Rattle.theorems.specs.Weights.{statusAt, slotAt, heads, holdF, ownedAt}
 use Rattle.theorems.specs.Invariant.{Inv}
@@ -9,17 +9,17 @@ use Rattle.theorems.specs.Facts.{wire-bound}
 use Rattle.theorems.specs.Sent.{Good, made}
 use Rattle.theorems.specs.Waiters.{parted, grants-count}
 use Rattle.theorems.specs.Clients.{good-releases}
-use Rattle.theorems.specs.Steps.{good-deliver, Says, after-step}
+use Rattle.theorems.specs.Steps.{verdict, good-deliver, Says, after-step}
 use Rattle.theorems.specs.Work.{workM, workS, workP, work, tally-set-le, work-none, work-after, work-bound}
 use Rattle.theorems.specs.Distance.{homeIn, route, served, hopsM, hops, least, least-falls, leastOf, dist, hops-three, seated-is, least-bound}
 
 abbrev hopsOf : LockState → Packet → ℕ
 hopsOf r = hops (r .decider .owner) (r .agents)
 
--- what a delivery of p does: the work falls, or p goes to the wire's end as q
-data Moves (r : LockState) (p : Packet) (rest : List Packet) (ch : Change) : Type 0 where
-  lowers : work (apply ch rest r) < work r → Moves r p rest ch
-  passes : (q : Packet) → ch ≡ sending r (q ∷ []) → workP q ≡ workP p → (hopsOf r p ≤ 2 → hopsOf r q < hopsOf r p) → Moves r p rest ch
+-- what a delivery of p, about machine k and client c, does: the work falls, or p goes to the wire's end as q
+data Moves (r : LockState) (k : MachineId) (c : ClientId) (p : Packet) (rest : List Packet) (v : Site) (qs : List Packet) : Type 0 where
+  lowers : work (apply k c v qs rest r) < work r → Moves r k c p rest v qs
+  passes : (q : Packet) → v ≡ siteOf r k c → qs ≡ q ∷ [] → workP q ≡ workP p → (hopsOf r p ≤ 2 → hopsOf r q < hopsOf r p) → Moves r k c p rest v qs
 
 -- ---- agents' work
 heads-join : (hs : List Bool) (c : ℕ) → tally flag (set hs c true) ≤ tally flag hs + 1
@@ -70,14 +70,18 @@ installed-work n c a =
     ))
 
 -- a holder is removed, and the agent leaves if it is empty: no work is added
-left-work : (b : Bool) (a : Agent) (c : ClientId) → listed a c ≡ true → workS (slotLeft b a (without a c)) + tally workP (sendsLeft b a (without a c)) ≤ workS (seated a)
-unfolding workS tally
-left-work true a c e = omega (arith, heads-off a c e)
-left-work false a c e = omega (arith, work-none, go (waiters (a .queue)) refl)
+left-says : (P : Site → List Packet → Type 0) (v : Site) (a : Agent) (c : ClientId) → listed a c ≡ true
+    → ((w : Site) (qs : List Packet) → w .status ≡ v .status → workS (w .slot) + tally workP qs ≤ workS (seated a) → P w qs) → Says P (leaves v a c)
+unfolding staysIf
+left-says P v a c e f = go (anyHolder (without a c))
   where
-    go : (ws : List Waiter) → waiters (a .queue) ≡ ws → workP (handOver a (without a c) ws) ≤ workS (seated a)
-    go [] q = unfold handOver workM workS in rw (waiters-of []) (omega (arith, heads-off a c e))
-    go (w ∷ ws) q = unfold handOver workM workS in rw (waiters-of ws, q) (omega (arith, heads-off a c e))
+    sent : (ws : List Waiter) → waiters (a .queue) ≡ ws → workP (handOver a (without a c) ws) ≤ workS (seated a)
+    sent [] q = unfold handOver workM workS in rw (waiters-of []) (omega (arith, heads-off a c e))
+    sent (w ∷ ws) q = unfold handOver workM workS in rw (waiters-of ws, q) (omega (arith, heads-off a c e))
+
+    go : (b : Bool) → Says P (staysIf b v a (without a c))
+    go true = f _ _ refl (unfold workS tally in omega (arith, heads-off a c e))
+    go false = f _ _ refl (unfold tally in omega (arith, work-none, sent (waiters (a .queue)) refl))
 
 -- ---- hops of a packet sent on and of one sent back; t: it has hops that are known
 send-hops : (n : Mode) (k : MachineId) (t : Bool) → pick t 1 3 ≤ 2 → pick t (route (Owned n k) (ToMachine k)) 3 < pick t 1 3
@@ -98,79 +102,87 @@ served-at Unowned xs j e q = absurd (false≢true q)
 served-at (Owned m k) xs j e q = at-home (λ y. y .present) (Owned m k) xs j e q
 
 module _ (r : LockState) (rest : List Packet) where
-  -- the change's own parts say that the work falls
-  lowered : (p : Packet) (ch : Change) → Split r (p ∷ []) rest
-      → tally workP (ch .sends) + workS (ch .slot) + 2 * holdF (ch .status) < workP p + workS (slotAt r (ch .machine .0)) + 2 * holdF (statusAt r (ch .client .0))
-      → Moves r p rest ch
-  lowered p ch sp h = lowers (omega (arith, work-after ch (p ∷ []) rest r sp, tally-one workP p))
+  -- the step's own parts say that the work falls
+  lowered : (k : MachineId) (c : ClientId) (p : Packet) (v : Site) (qs : List Packet) → Split r (p ∷ []) rest
+      → tally workP qs + workS (v .slot) + 2 * holdF (v .status) < workP p + workS (slotAt r (k .0)) + 2 * holdF (statusAt r (c .0))
+      → Moves r k c p rest v qs
+  lowered k c p v qs sp h = lowers (omega (arith, work-after r k c v (p ∷ []) qs rest sp, tally-one workP p))
 
-  -- ---- at the decider
-  sent-acquire : (c : ClientId) (n : Mode) (g b x : Bool) (a : Agent) (m : Mode) (k : MachineId) → r .decider .owner ≡ Owned m k
-      → Moves r (made (Acquire c n g) ToDecider b x a) rest (sending r (sentOn (made (Acquire c n g) ToDecider b x a) k ∷ []))
-  unfolding workM hopsM
-  sent-acquire c n true b x a m k e = passes _ refl refl (rw e (send-hops m k (slotAt r (k .0) .present)))
-  sent-acquire c n false b x a m k e = passes _ refl refl (rw e (send-hops m k (slotAt r (k .0) .present)))
+  -- ---- at the decider: a step about machine j and client u
+  module _ (j : MachineId) (u : ClientId) where
+    abbrev site : Site
+    site = siteOf r j u
 
-  sent-release : (c : ClientId) (b x : Bool) (a : Agent) (m : Mode) (k : MachineId) → r .decider .owner ≡ Owned m k
-      → Moves r (made (Release c) ToDecider b x a) rest (sending r (sentOn (made (Release c) ToDecider b x a) k ∷ []))
-  unfolding workM hopsM
-  sent-release c b x a m k e = passes _ refl refl (rw e (send-hops m k (lists (slotAt r (k .0)) c)))
+    sent-acquire : (c : ClientId) (n : Mode) (g b x : Bool) (a : Agent) (m : Mode) (k : MachineId) → r .decider .owner ≡ Owned m k
+        → Moves r j u (made (Acquire c n g) ToDecider b x a) rest site (sentOn (made (Acquire c n g) ToDecider b x a) k ∷ [])
+    unfolding workM hopsM
+    sent-acquire c n true b x a m k e = passes _ refl refl refl (rw e (send-hops m k (slotAt r (k .0) .present)))
+    sent-acquire c n false b x a m k e = passes _ refl refl refl (rw e (send-hops m k (slotAt r (k .0) .present)))
 
-  module _ (b x : Bool) (a : Agent) where
-    moves-decides : (m : Message) (o : Owner) → r .decider .owner ≡ o → Split r (made m ToDecider b x a ∷ []) rest
-        → Says (Moves r (made m ToDecider b x a) rest) (decides m o r (made m ToDecider b x a))
-    unfolding decides decidesAcquire toOwner
-    moves-decides (Acquire c n false) Unowned e sp = lowered _ (grantsFirst r c n) sp (unfold workM tally in omega (arith, work-new n))
-    moves-decides (Acquire c n true) Unowned e sp = tt
-    moves-decides (Acquire c n true) (Owned m k) e sp = sent-acquire c n true b x a m k e
-    moves-decides (Acquire c n false) (Owned m k) e sp = go (isShared m && isShared n)
-      where
-        go : (t : Bool) → Says (Moves r (made (Acquire c n false) ToDecider b x a) rest) (pick t (does (shares r c k)) (does (sending r (sentOn (made (Acquire c n false) ToDecider b x a) k ∷ []))))
-        go true = lowered _ (shares r c k) sp (unfold workM tally in omega (arith, work-plain (Grant c Shared) (ToMachine (machineOf c)), work-plain (Acquire c Shared true) (ToMachine k)))
-        go false = sent-acquire c n false b x a m k e
-    moves-decides (Release c) Unowned e sp = tt
-    moves-decides (Release c) (Owned m k) e sp = sent-release c b x a m k e
-    moves-decides (Grant c n) o e sp = grant x o e sp
-      where
-        grant : (x : Bool) (o : Owner) → r .decider .owner ≡ o → Split r (made (Grant c n) ToDecider b x a ∷ []) rest
-            → Says (Moves r (made (Grant c n) ToDecider b x a) rest) (decidesGrant x o r (made (Grant c n) ToDecider b x a) c n)
-        grant false o e sp = unfold decidesGrant in passes _ refl (unfold workM in refl) (unfold hopsM in λ h. omega arith)
-        grant true Unowned e sp = unfold decidesGrant in tt
-        grant true (Owned m k) e sp = unfold decidesGrant in go (current r (made (Grant c n) ToDecider b true a))
-          where
-            go : (t : Bool) → Says (Moves r (made (Grant c n) ToDecider b true a) rest) (pick t (does (passesOn r c n a)) (does (rejecting r (made (Grant c n) ToDecider b true a) k)))
-            go true = lowered _ (passesOn r c n a) sp (unfold workM tally workS in omega arith)
-            go false = lowered _ (rejecting r (made (Grant c n) ToDecider b true a) k) sp (unfold workM tally in omega arith)
-    moves-decides Free Unowned e sp = unfold decidesFree in tt
-    moves-decides Free (Owned m k) e sp = unfold decidesFree in go (current r (made Free ToDecider b x a))
-      where
-        go : (t : Bool) → Says (Moves r (made Free ToDecider b x a) rest) (pick t (does (deciding r unowned [])) (does (rejecting r (made Free ToDecider b x a) k)))
-        go true = lowered _ (deciding r unowned []) sp (unfold workM tally in omega arith)
-        go false = lowered _ (rejecting r (made Free ToDecider b x a) k) sp (unfold workM tally in omega arith)
+    sent-release : (c : ClientId) (b x : Bool) (a : Agent) (m : Mode) (k : MachineId) → r .decider .owner ≡ Owned m k
+        → Moves r j u (made (Release c) ToDecider b x a) rest site (sentOn (made (Release c) ToDecider b x a) k ∷ [])
+    unfolding workM hopsM
+    sent-release c b x a m k e = passes _ refl refl refl (rw e (send-hops m k (lists (slotAt r (k .0)) c)))
+
+    module _ (b x : Bool) (a : Agent) where
+      moves-decides : (m : Message) (o : Owner) → r .decider .owner ≡ o → Split r (made m ToDecider b x a ∷ []) rest
+          → Says (Moves r j u (made m ToDecider b x a) rest) (decides m o site (made m ToDecider b x a))
+      unfolding decides decidesAcquire toOwner
+      moves-decides (Acquire c n false) Unowned e sp = lowered j u _ _ _ sp (unfold workM tally in omega (arith, work-new n))
+      moves-decides (Acquire c n true) Unowned e sp = tt
+      moves-decides (Acquire c n true) (Owned m k) e sp = sent-acquire c n true b x a m k e
+      moves-decides (Acquire c n false) (Owned m k) e sp = go (isShared m && isShared n)
+        where
+          go : (t : Bool) → Says (Moves r j u (made (Acquire c n false) ToDecider b x a) rest) (pick t (shares site c k) (does site (sentOn (made (Acquire c n false) ToDecider b x a) k ∷ [])))
+          go true = lowered j u _ _ _ sp (unfold workM tally in omega (arith, work-plain (Grant c Shared) (ToMachine (machineOf c)), work-plain (Acquire c Shared true) (ToMachine k)))
+          go false = sent-acquire c n false b x a m k e
+      moves-decides (Release c) Unowned e sp = tt
+      moves-decides (Release c) (Owned m k) e sp = sent-release c b x a m k e
+      moves-decides (Grant c n) o e sp = grant x o e sp
+        where
+          grant : (x : Bool) (o : Owner) → r .decider .owner ≡ o → Split r (made (Grant c n) ToDecider b x a ∷ []) rest
+              → Says (Moves r j u (made (Grant c n) ToDecider b x a) rest) (decidesGrant x o site (made (Grant c n) ToDecider b x a) c n)
+          grant false o e sp = unfold decidesGrant in passes _ refl refl (unfold workM in refl) (unfold hopsM in λ h. omega arith)
+          grant true Unowned e sp = unfold decidesGrant in tt
+          grant true (Owned m k) e sp = unfold decidesGrant in go (current (r .decider) (made (Grant c n) ToDecider b true a))
+            where
+              go : (t : Bool) → Says (Moves r j u (made (Grant c n) ToDecider b true a) rest) (pick t (passesOn site c n a) (rejecting site (made (Grant c n) ToDecider b true a) k))
+              go true = lowered j u _ _ _ sp (unfold workM tally workS in omega arith)
+              go false = lowered j u _ _ _ sp (unfold workM tally in omega arith)
+      moves-decides Free Unowned e sp = unfold decidesFree in tt
+      moves-decides Free (Owned m k) e sp = unfold decidesFree in go (current (r .decider) (made Free ToDecider b x a))
+        where
+          go : (t : Bool) → Says (Moves r j u (made Free ToDecider b x a) rest) (pick t (does (withDecider site unowned) []) (rejecting site (made Free ToDecider b x a) k))
+          go true = lowered j u _ _ _ sp (unfold workM tally in omega arith)
+          go false = lowered j u _ _ _ sp (unfold workM tally in omega arith)
 
   -- ---- at a machine
   module _ (k : MachineId) where
+    -- the site whose slot is x
+    abbrev seen : AgentSlot → ClientId → Site
+    seen x c = withSlot (siteOf r k c) x
+
     -- the slot there is old
-    seat-lowers : (old : AgentSlot) (p : Packet) (ch : Change) → slotAt r (k .0) ≡ old → Split r (p ∷ []) rest → ch .machine ≡ k
-        → tally workP (ch .sends) + workS (ch .slot) + 2 * holdF (ch .status) < workP p + workS old + 2 * holdF (statusAt r (ch .client .0)) → Moves r p rest ch
-    seat-lowers old p ch es sp e h = lowered p ch sp (rw (e, es) h)
+    seat-lowers : (old : AgentSlot) (c : ClientId) (p : Packet) (v : Site) (qs : List Packet) → slotAt r (k .0) ≡ old → Split r (p ∷ []) rest
+        → tally workP qs + workS (v .slot) + 2 * holdF (v .status) < workP p + workS old + 2 * holdF (statusAt r (c .0)) → Moves r k c p rest v qs
+    seat-lowers old c p v qs es sp h = lowered k c p v qs sp (rw es h)
 
-    back-acquire : (c : ClientId) (n : Mode) (g b x : Bool) (a : Agent) → slotAt r (k .0) .present ≡ false
-        → Says (Moves r (made (Acquire c n g) (ToMachine k) b x a) rest) (bounces r (made (Acquire c n g) (ToMachine k) b x a))
+    back-acquire : (old : AgentSlot) (c : ClientId) (n : Mode) (g b x : Bool) (a : Agent) → slotAt r (k .0) ≡ old → old .present ≡ false
+        → Says (Moves r k c (made (Acquire c n g) (ToMachine k) b x a) rest) (bounces (seen old c) (made (Acquire c n g) (ToMachine k) b x a))
     unfolding workM hopsM
-    back-acquire c n true b x a e = passes _ refl refl (back-hops (r .decider .owner) k _ (served-at (r .decider .owner) (r .agents) (k .0) e))
-    back-acquire c n false b x a e = passes _ refl refl (back-hops (r .decider .owner) k _ (served-at (r .decider .owner) (r .agents) (k .0) e))
+    back-acquire old c n true b x a es e = passes _ (ap (λ (y : AgentSlot). seen y c) (sym es)) refl refl (back-hops (r .decider .owner) k _ (served-at (r .decider .owner) (r .agents) (k .0) (rw es e)))
+    back-acquire old c n false b x a es e = passes _ (ap (λ (y : AgentSlot). seen y c) (sym es)) refl refl (back-hops (r .decider .owner) k _ (served-at (r .decider .owner) (r .agents) (k .0) (rw es e)))
 
-    back-release : (c : ClientId) (b x : Bool) (a : Agent) → lists (slotAt r (k .0)) c ≡ false
-        → Says (Moves r (made (Release c) (ToMachine k) b x a) rest) (bounces r (made (Release c) (ToMachine k) b x a))
+    back-release : (old : AgentSlot) (c : ClientId) (b x : Bool) (a : Agent) → slotAt r (k .0) ≡ old → lists old c ≡ false
+        → Says (Moves r k c (made (Release c) (ToMachine k) b x a) rest) (bounces (seen old c) (made (Release c) (ToMachine k) b x a))
     unfolding workM hopsM
-    back-release c b x a e = passes _ refl refl (back-hops (r .decider .owner) k _ (at-home (λ y. lists y c) (r .decider .owner) (r .agents) (k .0) e))
+    back-release old c b x a es e = passes _ (ap (λ (y : AgentSlot). seen y c) (sym es)) refl refl (back-hops (r .decider .owner) k _ (at-home (λ y. lists y c) (r .decider .owner) (r .agents) (k .0) (rw es e)))
 
     -- a client that would join a queue finds room there, or the step is refused
-    roomy : (p : Packet) (a : Agent) (c : ClientId) (ch : Change) → Moves r p rest ch → Says (Moves r p rest) (withRoom a c ch)
-    roomy p a c ch h = go (noRoom a c)
+    roomy : (p : Packet) (a : Agent) (c : ClientId) (v : Site) (qs : List Packet) → Moves r k c p rest v qs → Says (Moves r k c p rest) (withRoom a c (does v qs))
+    roomy p a c v qs h = go (noRoom a c)
       where
-        go : (t : Bool) → Says (Moves r p rest) (pick t cannot-place (does ch))
+        go : (t : Bool) → Says (Moves r k c p rest) (pick t cannot-place (does v qs))
         go true = tt
         go false = h
 
@@ -184,84 +196,91 @@ module _ (r : LockState) (rest : List Packet) where
 
     moves-acquired : (here : Bool) (s : Agent) (c : ClientId) (n : Mode) (g b x : Bool) (a : Agent) → slotAt r (k .0) ≡ record { present = here; agent = s }
         → Split r (made (Acquire c n g) (ToMachine k) b x a ∷ []) rest
-        → Says (Moves r (made (Acquire c n g) (ToMachine k) b x a) rest) (acquired r k here s (made (Acquire c n g) (ToMachine k) b x a) c n g)
+        → Says (Moves r k c (made (Acquire c n g) (ToMachine k) b x a) rest) (acquired here (seen (record { present = here; agent = s }) c) s (made (Acquire c n g) (ToMachine k) b x a) c n g)
     unfolding acquired marked unmarked workM workS tally
-    moves-acquired false s c n g b x a es sp = back-acquire c n g b x a (rw es)
+    moves-acquired false s c n g b x a es sp = back-acquire _ c n g b x a es refl
     moves-acquired true s c n true b x a es sp = go (isShared (s .mode))
       where
-        go : (t : Bool) → Says (Moves r (made (Acquire c n true) (ToMachine k) b x a) rest)
-            (pick t (does (seating r k (seated (changed s (set (s .holders) (c .0) true) (s .queue) (next (s .incarnation)))) [])) cannot-place)
-        go true = seat-lowers (seated s) _ _ es sp refl (omega (arith, heads-join (s .holders) (c .0)))
+        go : (t : Bool) → Says (Moves r k c (made (Acquire c n true) (ToMachine k) b x a) rest)
+            (pick t (does (seen (seated (changed s (set (s .holders) (c .0) true) (s .queue) (next (s .incarnation)))) c) []) cannot-place)
+        go true = seat-lowers (seated s) c _ _ _ es sp (omega (arith, heads-join (s .holders) (c .0)))
         go false = tt
     moves-acquired true s c n false b x a es sp = go (mayJoin s n)
       where
-        go : (t : Bool) → Says (Moves r (made (Acquire c n false) (ToMachine k) b x a) rest)
-            (pick t (does (seating r k (seated (joining s c)) (packet (Grant c n) ToDecider ∷ []))) (withRoom s c (seating r k (seated (queuing s c n)) [])))
-        go true = seat-lowers (seated s) _ _ es sp refl (omega (arith, heads-join (s .holders) (c .0), work-plain (Grant c n) ToDecider))
-        go false = roomy _ s c _ (seat-lowers (seated s) _ (seating r k (seated (queuing s c n)) []) es sp refl (omega (arith, queued-work s c n)))
+        go : (t : Bool) → Says (Moves r k c (made (Acquire c n false) (ToMachine k) b x a) rest)
+            (pick t (does (seen (seated (joining s c)) c) (packet (Grant c n) ToDecider ∷ [])) (withRoom s c (does (seen (seated (queuing s c n)) c) [])))
+        go true = seat-lowers (seated s) c _ _ _ es sp (omega (arith, heads-join (s .holders) (c .0), work-plain (Grant c n) ToDecider))
+        go false = roomy _ s c _ _ (seat-lowers (seated s) c _ (seen (seated (queuing s c n)) c) _ es sp (omega (arith, queued-work s c n)))
 
     moves-granted : (here : Bool) (s : Agent) (c : ClientId) (n : Mode) (b x : Bool) (a : Agent) → slotAt r (k .0) ≡ record { present = here; agent = s }
-        → Split r (made (Grant c n) (ToMachine k) b x a ∷ []) rest → Says (Moves r (made (Grant c n) (ToMachine k) b x a) rest) (granted r k here x b a c n)
+        → Split r (made (Grant c n) (ToMachine k) b x a ∷ []) rest
+        → Says (Moves r k c (made (Grant c n) (ToMachine k) b x a) rest) (granted here x b (seen (record { present = here; agent = s }) c) a c n)
     unfolding granted workM workS tally holdF installs
-    moves-granted here s c n b false a es sp = lowered _ _ sp (omega arith)
+    moves-granted here s c n b false a es sp = seat-lowers _ c _ _ _ es sp (omega arith)
     moves-granted true s c n b true a es sp = tt
-    moves-granted false s c n false true a es sp = seat-lowers _ _ (installs r k c n a) es sp refl (omega (arith, installed-work n c a))
-    moves-granted false s c n true true a es sp = roomy _ a c _ (seat-lowers _ _ (seating r k (seated (requeued a c n)) []) es sp refl (omega (arith, requeued-work a c n)))
+    moves-granted false s c n false true a es sp = seat-lowers _ c _ _ _ es sp (omega (arith, installed-work n c a))
+    moves-granted false s c n true true a es sp = roomy _ a c _ _ (seat-lowers _ c _ (seen (seated (requeued a c n)) c) _ es sp (omega (arith, requeued-work a c n)))
 
     moves-released : (y : AgentSlot) (c : ClientId) (b x : Bool) (a : Agent) → slotAt r (k .0) ≡ y
-        → Split r (made (Release c) (ToMachine k) b x a ∷ []) rest → Says (Moves r (made (Release c) (ToMachine k) b x a) rest) (released r k y (made (Release c) (ToMachine k) b x a) c)
-    unfolding released workM leaves
+        → Split r (made (Release c) (ToMachine k) b x a ∷ []) rest → Says (Moves r k c (made (Release c) (ToMachine k) b x a) rest) (released (seen y c) (made (Release c) (ToMachine k) b x a) c)
+    unfolding released workM
     moves-released y c b x a es sp = go (lists y c) refl
       where
         go : (t : Bool) → lists y c ≡ t
-            → Says (Moves r (made (Release c) (ToMachine k) b x a) rest) (pick t (does (leaves r k (y .agent) c client0 (statusOf r client0))) (bounces r (made (Release c) (ToMachine k) b x a)))
-        go true q = seat-lowers (seated (y .agent)) _ (leaves r k (y .agent) c client0 (statusOf r client0)) (es ∙ seated-is y (and-left (y .present) _ q)) sp refl
-            (omega (arith, left-work (anyHolder (without (y .agent) c)) (y .agent) c (and-right (y .present) _ q)))
-        go false q = back-release c b x a (rw es q)
+            → Says (Moves r k c (made (Release c) (ToMachine k) b x a) rest) (pick t (leaves (seen y c) (y .agent) c) (bounces (seen y c) (made (Release c) (ToMachine k) b x a)))
+        go true q =
+            left-says _ (seen y c) (y .agent) c (and-right (y .present) _ q)
+            (λ w qs e h. seat-lowers (seated (y .agent)) c _ w qs (es ∙ seated-is y (and-left (y .present) _ q)) sp (rw e (omega (arith, h))))
+        go false q = back-release y c b x a es q
 
-    moves-returned : (here : Bool) (s : Agent) (b x : Bool) (a : Agent) → slotAt r (k .0) ≡ record { present = here; agent = s }
-        → Split r (made Free (ToMachine k) b x a ∷ []) rest → Says (Moves r (made Free (ToMachine k) b x a) rest) (returned r k here (record { present = x; agent = a }))
+    moves-returned : (here : Bool) (s : Agent) (c : ClientId) (b x : Bool) (a : Agent) → slotAt r (k .0) ≡ record { present = here; agent = s }
+        → Split r (made Free (ToMachine k) b x a ∷ []) rest
+        → Says (Moves r k c (made Free (ToMachine k) b x a) rest) (returned here (seen (record { present = here; agent = s }) c) (record { present = x; agent = a }))
     unfolding returned workM tally
-    moves-returned true s b x a es sp = tt
-    moves-returned false s b x a es sp = seat-lowers _ _ (seating r k (record { present = x; agent = a }) []) es sp refl (omega arith)
+    moves-returned true s c b x a es sp = tt
+    moves-returned false s c b x a es sp = seat-lowers _ c _ _ _ es sp (omega arith)
 
-  moves-delivers : (t : Address) (m : Message) (b x : Bool) (a : Agent) → Split r (made m t b x a ∷ []) rest → Says (Moves r (made m t b x a) rest) (delivers t r (made m t b x a))
+  moves-delivers : (t : Address) (m : Message) (b x : Bool) (a : Agent) → Split r (made m t b x a ∷ []) rest
+      → Says (Moves r (machineAt t) (clientNamed m) (made m t b x a) rest) (verdict r (made m t b x a))
   unfolding delivers atDecider atMachine arrives
-  moves-delivers ToDecider m b x a sp = moves-decides b x a m (r .decider .owner) refl sp
+  moves-delivers ToDecider m b x a sp = moves-decides _ (clientNamed m) b x a m (r .decider .owner) refl sp
   moves-delivers (ToMachine k) (Acquire c n g) b x a sp = moves-acquired k (agentOn r k .present) (agentOn r k .agent) c n g b x a refl sp
   moves-delivers (ToMachine k) (Grant c n) b x a sp = moves-granted k (agentOn r k .present) (agentOn r k .agent) c n b x a refl sp
   moves-delivers (ToMachine k) (Release c) b x a sp = moves-released k (agentOn r k) c b x a refl sp
-  moves-delivers (ToMachine k) Free b x a sp = moves-returned k (agentOn r k .present) (agentOn r k .agent) b x a refl sp
+  moves-delivers (ToMachine k) Free b x a sp = moves-returned k (agentOn r k .present) (agentOn r k .agent) _ b x a refl sp
 
 -- ---- a client that holds releases
 whole-wire : (r : LockState) → Split r [] (packets (r .wire))
 unfolding tally
 whole-wire r = record { parts = λ f. omega arith }
 
-Less : LockState → Change → Type 0
-Less r ch = work (apply ch (packets (r .wire)) r) < work r
+module _ (r : LockState) (c : ClientId) (n : Mode) (h : statusOf r c ≡ Holding n) where
+  abbrev home : Site
+  home = siteOf r (machineOf c) c
 
-release-lowers : (r : LockState) (c : ClientId) (n : Mode) → statusOf r c ≡ Holding n → Says (Less r) (releases r c)
-unfolding releases leaves Less tally holdF
-release-lowers r c n h = go (lists (agentOn r (machineOf c)) c) refl
-  where
-    own : 2 * holdF (statusAt r (c .0)) ≡ 2
-    own = rw h
+  Less : Site → List Packet → Type 0
+  Less v qs = work (apply (machineOf c) c v qs (packets (r .wire)) r) < work r
 
-    go : (t : Bool) → lists (agentOn r (machineOf c)) c ≡ t
-        → Says (Less r) (pick t (does (leaves r (machineOf c) (agentOn r (machineOf c) .agent) c c Idle)) (does (telling r c Idle (packet (Release c) ToDecider ∷ []))))
-    go true q =
-        let a : Agent = agentOn r (machineOf c) .agent in
-        let es : slotAt r (machineOf c .0) ≡ seated a = seated-is _ (and-left (agentOn r (machineOf c) .present) _ q) in
-        omega (
-          arith,
-          own,
-          left-work (anyHolder (without a c)) a c (and-right (agentOn r (machineOf c) .present) _ q),
-          rw es at (work-after (leaves r (machineOf c) a c c Idle) [] (packets (r .wire)) r (whole-wire r)),
-        )
-    go false q =
-        let w : workP (packet (Release c) ToDecider) ≡ 1 = work-plain (Release c) ToDecider ∙ unfold workM in refl in
-        omega (arith, own, w, work-after (telling r c Idle (packet (Release c) ToDecider ∷ [])) [] (packets (r .wire)) r (whole-wire r))
+  -- it is idle, and its machine's slot and the packets count for less than its holding did
+  less : (old : AgentSlot) (v : Site) (qs : List Packet) → agentOn r (machineOf c) ≡ old → v .status ≡ Idle → workS (v .slot) + tally workP qs < workS old + 2 → Less v qs
+  unfolding Less tally holdF
+  less old v qs es e w =
+      let own : 2 * holdF (statusAt r (c .0)) ≡ 2 = rw h in
+      let idle : 2 * holdF (v .status) ≡ 0 = rw e in
+      omega (arith, own, idle, w, rw es at (work-after r (machineOf c) c v [] qs (packets (r .wire)) (whole-wire r)))
+
+  release-lowers : Says Less (releases home c)
+  unfolding releases tally
+  release-lowers = go (lists (agentOn r (machineOf c)) c) refl
+    where
+      go : (t : Bool) → lists (agentOn r (machineOf c)) c ≡ t
+          → Says Less (pick t (leaves (withStatus home Idle) (agentOn r (machineOf c) .agent) c) (does (withStatus home Idle) (packet (Release c) ToDecider ∷ [])))
+      go true q =
+          left-says _ (withStatus home Idle) (agentOn r (machineOf c) .agent) c (and-right (agentOn r (machineOf c) .present) _ q)
+          (λ w qs e l. less _ w qs (seated-is _ (and-left (agentOn r (machineOf c) .present) _ q)) e (omega (arith, l)))
+      go false q =
+          let w : workP (packet (Release c) ToDecider) ≡ 1 = work-plain (Release c) ToDecider ∙ unfold workM in refl in
+          less _ _ (packet (Release c) ToDecider ∷ []) refl refl (omega (arith, w))
 
 -- ---- the rank: a step that leaves the work lowers the distance
 unfoldable pub rank : LockState → ℕ
@@ -277,31 +296,31 @@ less-work s r h = omega arith
 
 -- the first packet p goes to the wire's end as q
 sent-on-falls : (r : LockState) (p q : Packet) (ps : List Packet) → Inv r → packets (r .wire) ≡ p ∷ ps → workP q ≡ workP p → (hopsOf r p ≤ 2 → hopsOf r q < hopsOf r p)
-    → rank (apply (sending r (q ∷ [])) ps r) < rank r
+    → (k : MachineId) (c : ClientId) → rank (apply k c (siteOf r k c) (q ∷ []) ps r) < rank r
 unfolding rank dist tally
-sent-on-falls r p q ps i e w h =
+sent-on-falls r p q ps i e w h k c =
     let sp : Split r (p ∷ []) ps = record { parts = λ f. rw e (omega arith) } in
     let t : hopsOf r q ≤ 3 = hops-three (r .decider .owner) (homeIn (r .decider .owner) (r .agents)) (q .carried .present) (q .to) (q .message) in
     let far : leastOf r ≤ 98 = least-bound r i p ps e in
-    let same : leastOf (apply (sending r (q ∷ [])) ps r) ≡ least (hopsOf r) (ps ++ q ∷ []) = rw (set-getD (r .agents) 0 noAgent, packets-of (ps ++ q ∷ [])) in
+    let same : leastOf (apply k c (siteOf r k c) (q ∷ []) ps r) ≡ least (hopsOf r) (ps ++ q ∷ []) = rw (set-getD (r .agents) (k .0) noAgent, packets-of (ps ++ q ∷ [])) in
     let less : least (hopsOf r) (ps ++ q ∷ []) < leastOf r = rw e (least-falls (hopsOf r) p q ps t h (omega (arith, wire-bound r i, ap length e)) (rw e at far)) in
-    omega (arith, far, same, less, work-after (sending r (q ∷ [])) (p ∷ []) ps r sp, w)
+    omega (arith, far, same, less, work-after r k c (siteOf r k c) (p ∷ []) (q ∷ []) ps sp, w)
 
 pub deliver-falls : (r : LockState) → Inv r → (p : Packet) (ps : List Packet) → packets (r .wire) ≡ p ∷ ps → rank (deliverStep r 0 .state) < rank r
-unfolding deliverStep removed tally
+unfolding deliverStep takes removed tally
 deliver-falls r i p ps e =
     let sp : Split r (p ∷ []) ps = record { parts = λ f. rw e (omega arith) } in
-    let good : Good r ps (delivers (p .to) r p) = rw e at (good-deliver r i 0 (rw e (omega arith))) in
+    let good : Good r (machineAt (p .to)) (clientNamed (p .message)) ps (verdict r p) = rw e at (good-deliver r i 0 (rw e (omega arith))) in
     rw e
-    (after-step (Moves r p ps) (λ s. rank s < rank r) (delivers (p .to) r p) ps r good
-    (moves-delivers r ps (p .to) (p .message) (p .rejected) (p .carried .present) (p .carried .agent) sp) by-move)
+    (after-step _ _ (Moves r (machineAt (p .to)) (clientNamed (p .message)) p ps) (λ s. rank s < rank r) (verdict r p) ps r good
+    (moves-delivers r ps (p .to) (p .message) (p .rejected) (p .carried .present) (p .carried .agent) sp) (by-move (machineAt (p .to)) (clientNamed (p .message))))
   where
-    by-move : (ch : Change) → Moves r p ps ch → rank (apply ch ps r) < rank r
-    by-move ch (lowers h) = less-work (apply ch ps r) r h
-    by-move ch (passes q f w h) = rw f (sent-on-falls r p q ps i e w h)
+    by-move : (k : MachineId) (c : ClientId) (v : Site) (qs : List Packet) → Moves r k c p ps v qs → rank (apply k c v qs ps r) < rank r
+    by-move k c v qs (lowers h) = less-work (apply k c v qs ps r) r h
+    by-move k c v qs (passes q f g w h) = rw (f, g) (sent-on-falls r p q ps i e w h k c)
 
 pub release-falls : (r : LockState) → Inv r → (c : ClientId) (n : Mode) → c .0 < 16 → statusOf r c ≡ Holding n → rank (releaseStep r c .state) < rank r
 unfolding releaseStep Less
 release-falls r i c n h e =
-    after-step (Less r) (λ s. rank s < rank r) (releases r c) (packets (r .wire)) r (good-releases r i c h n e) (release-lowers r c n e)
-    (λ ch l. less-work (apply ch (packets (r .wire)) r) r l)
+    after-step _ _ (Less r c n e) (λ s. rank s < rank r) _ (packets (r .wire)) r (good-releases r i c h n e) (release-lowers r c n e)
+    (λ v qs l. less-work (apply (machineOf c) c v qs (packets (r .wire)) r) r l)

@@ -1,11 +1,11 @@
 -- A GRANT with its agent comes to its client's machine: the agent is installed, and with a shared one the shared waiters join.
-use Rattle.theorems.specs.Names.{MachineId, ClientId, Mode, Shared, Owner, Waiter, Agent, AgentSlot, ToMachine, Grant, Packet, Status, Waiting, Holding, LockState, _≡_, refl, _∙_, Bool, true, false, _&&_, List, [], _∷_, map, ℕ, _+_, _*_, _≤_, _<_, _/_, arith, length, getD, set, length-set, List·getD-eq-default, eqb, ltb, eq-eqb, ne-eqb, ltb-true, ltb-false, waiters, noAgent, apply, grantOf, admitted, staying, joined, installs, and-left, and-right, waiters-of}
+use Rattle.theorems.specs.Names.{MachineId, ClientId, Mode, Shared, Owner, Waiter, Agent, AgentSlot, ToMachine, Grant, Packet, Status, Waiting, Holding, LockState, _≡_, refl, _∙_, Bool, true, false, _&&_, List, [], _∷_, map, ℕ, _+_, _*_, _≤_, _<_, _/_, arith, length, getD, set, length-set, List·getD-eq-default, eqb, ltb, eq-eqb, ne-eqb, ltb-true, ltb-false, seated, waiters, noAgent, siteOf, grantOf, installed, admitted, staying, joined, installs, and-left, and-right, waiters-of}
 use Rattle.theorems.specs.Tally.{flag, tally}
 use Rattle.theorems.specs.Weights.{statusAt, slotAt, weight, one, hit, oneW, hitW, askM, queuedS, waitingP, markM, listedS, listedP, owedM, owedP, releaseM, releaseP, agentS, agentP, incarnationS, incarnationP, markAll, markP, rejectedP, heads, vacantS, waitF, holdF, idleF, clash, farP, ownedMode, ownedAt, few, misfitS, fitsAway, fits, misfitP}
 use Rattle.theorems.specs.Invariant.{Inv}
-use Rattle.theorems.specs.Keep.{Split, framed, keep, vacancy-by}
+use Rattle.theorems.specs.Keep.{Split, told, framed, keep, vacancy-by}
 use Rattle.theorems.specs.Facts.{fit, Zero, absent, list-on, nobody, came-fits, Away, away-of, home-fits, status-move, far-idle, waits-one, clash-none, grant-waits}
-use Rattle.theorems.specs.Sent.{made}
+use Rattle.theorems.specs.Sent.{Good, made}
 use Rattle.theorems.specs.Waiters.{parted, grants-count, grants-none, length-joined, join-count, admitted-below, single-of, grants-fit, few-joined, none-far}
 
 -- ---- what is known of a GRANT with an agent that comes to a machine
@@ -80,9 +80,9 @@ module _ (r : LockState) (rest : List Packet) (k : MachineId) (c : ClientId) (n 
     old-zero : Zero old
     old-zero = absent old ab
 
-    move : (F : Status → ℕ) (d : ℕ) → F (statusAt (apply (installs r k c n a) rest r) d) + one d c * F (Waiting n) ≡ F (statusAt r d) + one d c * F (Holding n)
-    unfolding one installs
-    move F d = rw waiting at (status-move F (installs r k c n a) rest r (omega (arith, known .below, i .sixteen)) d)
+    move : (F : Status → ℕ) (d : ℕ) → F (told r c (Holding n) d) + one d c * F (Waiting n) ≡ F (statusAt r d) + one d c * F (Holding n)
+    unfolding one
+    move F d = rw waiting at (status-move F r c (Holding n) (omega (arith, known .below, i .sixteen)) d)
 
     no-marks : tally markP (map grantOf (admitted n line)) ≡ 0
     unfolding markAll
@@ -94,10 +94,10 @@ module _ (r : LockState) (rest : List Packet) (k : MachineId) (c : ClientId) (n 
         let e : one (c .0) c ≡ 1 = rw (eq-eqb (c .0) (c .0) refl) in
         omega (arith, z, nobody holders′ (c .0) z, lists (c .0))
 
-    pub keep-installs : Inv (apply (installs r k c n a) rest r)
+    pub keep-installs : Good r k c rest (installs (siteOf r k c) c n a)
     unfolding tally askM markM owedM releaseM markAll queuedS listedS agentS incarnationS misfitP misfitS vacantS one hit waitF holdF idleF installs noAgent
     keep-installs =
-        keep r (r .decider .owner) old (installs r k c n a) (made (Grant c n) (ToMachine k) false true a ∷ []) rest i
+        keep r k c (r .decider .owner) old _ (made (Grant c n) (ToMachine k) false true a ∷ []) _ rest i
         (record {
           frame = framed sp kk es refl refl;
           waits = λ d m.
@@ -128,5 +128,5 @@ module _ (r : LockState) (rest : List Packet) (k : MachineId) (c : ClientId) (n 
                 small = known .small;
               });
           reach = grants-none n farP (λ e. refl) line;
-          vacancy = vacancy-by r old (installs r k c n a .slot) (k .0) (made (Grant c n) (ToMachine k) false true a ∷ []) rest (installs r k c n a .sends) i sp kk es (rw (ne-eqb (tally flag holders′) 0 listed-now) (omega (arith, no-marks, grants-none n rejectedP (λ e. refl) line)));
+          vacancy = vacancy-by r old (seated (installed n c a)) (k .0) (made (Grant c n) (ToMachine k) false true a ∷ []) rest (map grantOf (admitted n line)) i sp kk es (rw (ne-eqb (tally flag holders′) 0 listed-now) (omega (arith, no-marks, grants-none n rejectedP (λ e. refl) line)));
         })

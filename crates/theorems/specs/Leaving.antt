@@ -1,30 +1,24 @@
 -- A holder is removed from the agent's list, and the agent leaves if it is empty: by the client's release on the agent's machine, and
 -- by a RELEASE that is delivered there.
-use Rattle.theorems.specs.Names.{MachineId, ClientId, Mode, Waiter, Agent, AgentSlot, Free, Grant, Packet, Status, LockState, _≡_, refl, _∙_, Bool, true, false, true≢false, false≢true, List, [], _∷_, ℕ, _+_, _≤_, _<_, arith, length, getD, set, length-set, ne-eqb, lt-ltb, any, seated, listed, idle, queueOf, waiters, noAgent, apply, client0, sending, seatingTelling, changed, anyHolder, without, departing, slotLeft, sendsLeft, lists, handOver, leaves, waiters-of}
+use Rattle.theorems.specs.Names.{MachineId, ClientId, Mode, Waiter, Agent, AgentSlot, Free, Grant, Packet, Status, LockState, _≡_, refl, _∙_, Bool, true, false, true≢false, false≢true, List, [], _∷_, ℕ, _+_, _≤_, _<_, arith, length, getD, length-set, ne-eqb, lt-ltb, any, seated, listed, queueOf, waiters, noAgent, Site, withSlot, apply, changed, anyHolder, without, departing, lists, handOver, staysIf, leaves, waiters-of}
 use Rattle.theorems.specs.Tally.{flag, tally, tally-set}
 use Rattle.theorems.specs.Weights.{statusAt, slotAt, weight, one, hit, askM, queuedS, waitingP, markM, listedS, listedP, owedM, owedP, releaseM, releaseP, agentS, agentP, incarnationS, incarnationP, markAll, markP, rejectedP, heads, vacantS, waitF, holdF, idleF, clash, farP, few, misfitS, fitsAway, fitsFree, fits, misfitP}
 use Rattle.theorems.specs.Invariant.{Inv}
-use Rattle.theorems.specs.Keep.{Split, framed, keep, status-same, vacancy-by}
+use Rattle.theorems.specs.Keep.{Split, told, framed, keep, vacancy-by}
+use Rattle.theorems.specs.Sent.{Good}
 use Rattle.theorems.specs.Facts.{list-off, away-fits, Home, home-fits, seat-home, few-less, waiter-below, hit-self, in-slot}
 
--- the statuses after the step
-abbrev pub statusesAfter : LockState → ClientId → Status → ℕ → Status
-statusesAfter r e st d = getD (set (r .clients) (e .0) (record { status = st })) d idle .status
-
-pub unmoved : (r : LockState) (d : ℕ) → statusesAfter r client0 (statusAt r 0) d ≡ statusAt r d
-unmoved r d = status-same (sending r []) [] r refl d
-
--- what the two have in common: c is removed, the status of e becomes st, the packets gone leave the wire
-pub record Leaver (r : LockState) (c e : ClientId) (st : Status) (gone rest : List Packet) : Type 0 where
+-- what the two have in common: c is removed, its status becomes st, the packets gone leave the wire
+pub record Leaver (r : LockState) (c : ClientId) (st : Status) (gone rest : List Packet) : Type 0 where
   pub split : Split r gone rest
-  pub waits : (d : ℕ) (m : Mode) → tally (waitingP d m) gone + waitF m (statusesAfter r e st d) ≡ waitF m (statusAt r d)
+  pub waits : (d : ℕ) (m : Mode) → tally (waitingP d m) gone + waitF m (told r c st d) ≡ waitF m (statusAt r d)
   pub lists : (d : ℕ) → tally (listedP d) gone ≡ 0
-  pub holds : (d : ℕ) → holdF (statusAt r d) + tally (owedP d) gone ≡ holdF (statusesAfter r e st d) + one d c
-  pub rels : (d : ℕ) → tally (releaseP d) rest ≤ idleF (statusesAfter r e st d)
+  pub holds : (d : ℕ) → holdF (statusAt r d) + tally (owedP d) gone ≡ holdF (told r c st d) + one d c
+  pub rels : (d : ℕ) → tally (releaseP d) rest ≤ idleF (told r c st d)
   pub agent : tally agentP gone ≡ 0
   pub incs : tally incarnationP gone ≡ 0
   pub marks : tally markP gone ≡ 0
-  pub modes : (d : ℕ) → clash (r .decider .owner) (statusesAfter r e st d) ≡ 0
+  pub modes : (d : ℕ) → clash (r .decider .owner) (told r c st d) ≡ 0
 
 none-listed : (hs : List Bool) → any (λ (b : Bool). b) hs ≡ false → tally flag hs ≡ 0
 unfolding tally
@@ -39,7 +33,11 @@ some-listed (true ∷ hs) e z = omega arith
 some-listed (false ∷ hs) e z = some-listed hs e (omega arith)
 
 module _ (r : LockState) (i : Inv r) (k : MachineId) (kk : k .0 < 4) (a : Agent) (es : slotAt r (k .0) ≡ seated a) (c : ClientId) (cl : c .0 < 16)
-    (li : listed a c ≡ true) (e : ClientId) (st : Status) (gone rest : List Packet) (le : Leaver r c e st gone rest) where
+    (li : listed a c ≡ true) (st : Status) (gone rest : List Packet) (le : Leaver r c st gone rest) where
+  -- the site, with that status
+  abbrev site : Site
+  site = record { decider = r .decider; slot = seated a; status = st }
+
   abbrev hs : List Bool
   hs = without a c
 
@@ -56,10 +54,10 @@ module _ (r : LockState) (i : Inv r) (k : MachineId) (kk : k .0 < 4) (a : Agent)
       → ((d : ℕ) → (tally (owedP d) qs ≡ 0) × (tally (releaseP d) qs ≡ 0))
       → tally agentP qs + agentS new ≡ 1 → tally incarnationP qs + incarnationS new ≡ a .incarnation → tally markP qs ≡ 0
       → tally (misfitP (r .decider .owner)) qs ≡ 0 → misfitS (r .decider .owner) (k .0) new ≡ 0 → tally farP qs ≡ 0 → tally rejectedP qs + vacantS new ≡ 0
-      → Inv (apply (seatingTelling r k new e st qs) rest r)
+      → Inv (apply k c (withSlot site new) qs rest r)
   unfolding listedS agentS incarnationS one
   keep-left new qs w l z h n ma f g fa v =
-      keep r (r .decider .owner) (seated a) (seatingTelling r k new e st qs) gone rest i
+      keep r k c (r .decider .owner) (seated a) (withSlot site new) gone qs rest i
       (record {
         frame = framed (le .split) kk es refl refl;
         waits = λ d m. omega (arith, w d m, le .waits d m);
@@ -75,10 +73,10 @@ module _ (r : LockState) (i : Inv r) (k : MachineId) (kk : k .0 < 4) (a : Agent)
       })
 
   -- a holder remains
-  keep-some : anyHolder hs ≡ true → Inv (apply (seatingTelling r k (slotLeft true a hs) e st []) rest r)
-  unfolding tally queuedS listedS agentS incarnationS vacantS
+  keep-some : anyHolder hs ≡ true → Good r k c rest (staysIf true site a hs)
+  unfolding staysIf tally queuedS listedS agentS incarnationS vacantS
   keep-some so =
-      keep-left (slotLeft true a hs) [] (λ d n. omega arith) (λ d. omega arith) (λ d. (refl, refl)) refl (omega arith) refl refl
+      keep-left (seated (changed a hs (a .queue) (a .incarnation))) [] (λ d n. omega arith) (λ d. omega arith) (λ d. (refl, refl)) refl (omega arith) refl refl
       (home-fits (r .decider .owner) (k .0) _
       (record {
         at = home .at;
@@ -92,7 +90,7 @@ module _ (r : LockState) (i : Inv r) (k : MachineId) (kk : k .0 < 4) (a : Agent)
   away no-one ws = away-fits _ (record { sized = length-set (a .holders) (c .0) false ∙ home .sized; empty = none-listed hs no-one; small = home .small })
 
   -- none remains: by the queue
-  keep-none : anyHolder hs ≡ false → (ws : List Waiter) → waiters (a .queue) ≡ ws → Inv (apply (seatingTelling r k noAgent e st (handOver a hs ws ∷ [])) rest r)
+  keep-none : anyHolder hs ≡ false → (ws : List Waiter) → waiters (a .queue) ≡ ws → Inv (apply k c (withSlot site noAgent) (handOver a hs ws ∷ []) rest r)
   unfolding handOver tally askM markM owedM releaseM markAll queuedS listedS agentS incarnationS vacantS misfitP misfitS fits fitsFree queueOf noAgent
   keep-none no-one [] q =
       keep-left noAgent (departing Free a hs [] ∷ []) (λ d n. rw (q, waiters-of [])) (λ d. omega arith) (λ d. (refl, refl)) refl (omega arith) refl
@@ -104,10 +102,9 @@ module _ (r : LockState) (i : Inv r) (k : MachineId) (kk : k .0 < 4) (a : Agent)
       keep-left noAgent (departing (Grant (w .client) (w .mode)) a hs ws ∷ []) (λ d n. rw (q, waiters-of ws) (omega arith)) (λ d. omega arith) (λ d. (refl, refl)) refl (omega arith) refl
       (rw (lt-ltb (w .client .0) 16 wb, home .mode, away no-one ws)) refl refl refl
 
-  pub keep-leaves : Inv (apply (leaves r k a c e st) rest r)
-  unfolding leaves
+  pub keep-leaves : Good r k c rest (leaves site a c)
   keep-leaves = go (anyHolder hs) refl
     where
-      go : (b : Bool) → anyHolder hs ≡ b → Inv (apply (seatingTelling r k (slotLeft b a hs) e st (sendsLeft b a hs)) rest r)
+      go : (b : Bool) → anyHolder hs ≡ b → Good r k c rest (staysIf b site a hs)
       go true q = keep-some q
-      go false q = keep-none q (waiters (a .queue)) refl
+      go false q = unfold staysIf in keep-none q (waiters (a .queue)) refl

@@ -21,6 +21,7 @@ pub use Rattle.model.specs.declared.Wire.{Wire}
 pub use Rattle.model.specs.declared.Status.{Status}
 pub use Rattle.model.specs.declared.Status.the-variants.{Idle, Waiting, Holding}
 pub use Rattle.model.specs.declared.ClientState.{ClientState}
+pub use Rattle.model.specs.declared.Site.{Site}
 pub use Rattle.model.specs.declared.LockState.{LockState}
 pub use Rattle.model.specs.declared.Cluster.{Cluster}
 pub use Rattle.model.specs.declared.Call.{Call}
@@ -53,16 +54,16 @@ pub use Rattle.model.specs.States.{clientOf, machineOf, modeOf, isShared, noHol
 unfoldable pub use Rattle.model.specs.States.{queueOf, waiters, noAgent, blankPacket, wireOf, packets, freshLock, fresh}
 pub use Rattle.model.specs.WellFormed.{isClient}
 unfoldable pub use Rattle.model.specs.WellFormed.{lockFormed, wellFormed}
-pub use Rattle.model.specs.Changes.{Change, Verdict, cannot-place, does, apply, accepted, machine0, client0, sending, deciding, seating, telling, seatingTelling}
+pub use Rattle.model.specs.Changes.{siteOf, withDecider, withSlot, withStatus, Verdict, cannot-place, does, apply, accepted}
 unfoldable pub use Rattle.model.specs.Changes.{finish}
-pub use Rattle.model.specs.Asking.{changed, joining, queuing, noRoom, withRoom, mayJoin, anyHolder, without, departing, slotLeft, sendsLeft, lists}
-unfoldable pub use Rattle.model.specs.Asking.{asks, acquires, handOver, leaves, releases}
+pub use Rattle.model.specs.Asking.{changed, joining, queuing, noRoom, withRoom, mayJoin, anyHolder, without, departing, leaves, lists}
+unfoldable pub use Rattle.model.specs.Asking.{asks, acquires, handOver, staysIf, releases}
 pub use Rattle.model.specs.AtDecider.{next, sentOn, granting, grantsFirst, shares, current, rejecting, passesOn}
 unfoldable pub use Rattle.model.specs.AtDecider.{toOwner, decidesAcquire, decidesFree, decidesGrant, decides, atDecider}
 pub use Rattle.model.specs.AtMachine.{bounced, bounces, grantOf, installed, requeued}
 unfoldable pub use Rattle.model.specs.AtMachine.{ofMode, admitted, staying, joined, installs, granted, marked, unmarked, acquired, released, returned, arrives, atMachine}
-pub use Rattle.model.specs.Calls.{refusing, isIdle, isHolding, messageNames, names, packetAt, answersOf, after}
-unfoldable pub use Rattle.model.specs.Calls.{delivers, acquireStep, releaseStep, deliverStep, settled, unless, acquire, release, deliver, perform, run}
+pub use Rattle.model.specs.Calls.{refusing, isIdle, isHolding, messageNames, names, machineAt, clientNamed, packetAt, answersOf, after}
+unfoldable pub use Rattle.model.specs.Calls.{delivers, acquireStep, releaseStep, takes, deliverStep, settled, unless, acquire, release, deliver, perform, run}
 pub use Rattle.model.specs.Refusals.{refusalNumber, number}
 pub use Rattle.model.specs.Trace.{View, unseen, sameLock, sameClient, isAccepted, listedHome, joinsNow, toMachine, isGrantFor, grants, asked, shownIn, shown, handedBack, phaseAfter}
 unfoldable pub use Rattle.model.specs.Trace.{sees, watch}

@@ -10,11 +10,11 @@ use Rattle.theorems.specs.Names.{LockId, MachineId, ClientId, Mode, Excl
 use Rattle.model.specs.States.{queueOf, waiters, noHolders, newAgent, seated, noAgent, idle, packet, blankPacket, wireOf, packets, freshLock}
 use Rattle.model.specs.WellFormed.{shaped, isBlankWaiter, distinct, queueFormed, agentFormed, isBlankAgent, slotFormed, messageFormed, packetFormed, isBlankPacket, wireFormed, lockFormed, wellFormed}
 use Rattle.model.specs.Changes.{finish}
-use Rattle.model.specs.Asking.{asks, acquires, handOver, leaves, releases}
+use Rattle.model.specs.Asking.{asks, acquires, handOver, staysIf, releases}
 use Rattle.model.specs.AtDecider.{toOwner, decidesAcquire, decidesFree, decidesGrant, decides, atDecider}
 use Rattle.model.specs.AtMachine.{ofMode, admitted, staying, joined, installs, granted, marked, unmarked, acquired, released, returned, arrives, atMachine}
 use Rattle.model.specs.Refusals.{first}
-use Rattle.model.specs.Calls.{delivers, acquireStep, releaseStep, deliverStep, settled, unless, acquire, release, deliver, perform, run, answersOf}
+use Rattle.model.specs.Calls.{delivers, acquireStep, releaseStep, takes, deliverStep, settled, unless, acquire, release, deliver, perform, run, answersOf}
 
 pub record Result : Type 0 where
   pub answers : List Answer
@@ -234,5 +234,5 @@ scenarios =
     ∷ []
 
 pub scenarios-hold : Hold scenarios
-unfolding scenarios run perform acquire release deliver unless settled first wellFormed lockFormed wireFormed packetFormed messageFormed slotFormed agentFormed isBlankAgent isBlankPacket isBlankWaiter queueFormed distinct shaped acquireStep releaseStep deliverStep finish delivers atDecider decides decidesAcquire decidesFree decidesGrant toOwner atMachine arrives acquired released returned marked unmarked granted installs admitted staying ofMode joined acquires asks releases leaves handOver padded removed queueOf waiters noAgent blankPacket wireOf packets freshLock
+unfolding scenarios run perform acquire release deliver unless settled first wellFormed lockFormed wireFormed packetFormed messageFormed slotFormed agentFormed isBlankAgent isBlankPacket isBlankWaiter queueFormed distinct shaped acquireStep releaseStep deliverStep takes finish delivers atDecider decides decidesAcquire decidesFree decidesGrant toOwner atMachine arrives acquired released returned marked unmarked granted installs admitted staying ofMode joined acquires asks releases staysIf handOver padded removed queueOf waiters noAgent blankPacket wireOf packets freshLock
 scenarios-hold = (refl, (refl, (refl, (refl, (refl, (refl, (refl, (refl, (refl, (refl, (refl, (refl, (refl, (refl, (refl, (refl, (refl, (refl, tt))))))))))))))))))

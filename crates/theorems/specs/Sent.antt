@@ -1,23 +1,23 @@
 -- What a step must come to, packets sent on, and packets that never are on the wire.
-use Rattle.theorems.specs.Names.{MachineId, ClientId, Mode, Owner, Unowned, Agent, Address, ToDecider, ToMachine, Message, Free, Acquire, Grant, Release, Packet, LockState, _≡_, refl, Bool, true, false, and-false, true≢false, false≢true, List, [], _∷_, arith, pick, Verdict, cannot-place, does, apply, sending}
+use Rattle.theorems.specs.Names.{MachineId, ClientId, Mode, Owner, Unowned, Agent, Address, ToDecider, ToMachine, Message, Free, Acquire, Grant, Release, Packet, LockState, _≡_, refl, Bool, true, false, and-false, true≢false, false≢true, List, [], _∷_, _<_, arith, pick, Verdict, cannot-place, does, siteOf, apply}
 use Rattle.theorems.specs.Weights.{farA, ownedShared, fits, misfitP}
 use Rattle.theorems.specs.Invariant.{Inv}
 use Rattle.theorems.specs.Keep.{Split, same-mark, keep-sent-on}
 use Rattle.theorems.specs.Facts.{came-fits}
 
 -- the step can be placed and keeps the invariant
-abbrev pub Good : LockState → List Packet → Verdict → Type 0
-Good r rest cannot-place = ⊥
-Good r rest (does ch) = Inv (apply ch rest r)
+abbrev pub Good : LockState → MachineId → ClientId → List Packet → Verdict → Type 0
+Good r k c rest cannot-place = ⊥
+Good r k c rest (does v qs) = Inv (apply k c v qs rest r)
 
 -- by the test of a choice
-pub good-yes : (r : LockState) (rest : List Packet) (b : Bool) (v w : Verdict) → b ≡ true → Good r rest v → Good r rest (pick b v w)
-good-yes r rest true v w e g = g
-good-yes r rest false v w e g = absurd (false≢true e)
+pub good-yes : (r : LockState) (k : MachineId) (c : ClientId) (rest : List Packet) (b : Bool) (v w : Verdict) → b ≡ true → Good r k c rest v → Good r k c rest (pick b v w)
+good-yes r k c rest true v w e g = g
+good-yes r k c rest false v w e g = absurd (false≢true e)
 
-pub good-no : (r : LockState) (rest : List Packet) (b : Bool) (v w : Verdict) → b ≡ false → Good r rest w → Good r rest (pick b v w)
-good-no r rest true v w e g = absurd (true≢false e)
-good-no r rest false v w e g = g
+pub good-no : (r : LockState) (k : MachineId) (c : ClientId) (rest : List Packet) (b : Bool) (v w : Verdict) → b ≡ false → Good r k c rest w → Good r k c rest (pick b v w)
+good-no r k c rest true v w e g = absurd (true≢false e)
+good-no r k c rest false v w e g = g
 
 -- a packet by its parts: message, address, rejected, whether an agent is carried, the agent
 abbrev pub made : Message → Address → Bool → Bool → Agent → Packet
@@ -80,9 +80,9 @@ module _ (r : LockState) (rest : List Packet) (i : Inv r) where
   impossible p sp f = absurd (omega (arith, rw f at (came-fits r rest p i sp)))
 
   -- a packet whose fitting does not turn on its address
-  pub keep-on : (m : Message) (t t′ : Address) (b x : Bool) (a : Agent)
+  pub keep-on : (k : MachineId) (c : ClientId) → k .0 < 4 → (m : Message) (t t′ : Address) (b x : Bool) (a : Agent)
       → ((o : Owner) → fits o x t b a m ≡ fits o x t′ b a m) → farA t′ ≡ 0 → Split r (made m t b x a ∷ []) rest
-      → Inv (apply (sending r (made m t′ b x a ∷ [])) rest r)
+      → Inv (apply k c (siteOf r k c) (made m t′ b x a ∷ []) rest r)
   unfolding misfitP
-  keep-on m t t′ b x a e fa sp =
-      keep-sent-on r rest i m t t′ b b (record { present = x; agent = a }) sp (rw (e (r .decider .owner)) at (came-fits r rest _ i sp)) (same-mark r _ rest i sp) fa
+  keep-on k c kk m t t′ b x a e fa sp =
+      keep-sent-on r k c kk rest i m t t′ b b (record { present = x; agent = a }) sp (rw (e (r .decider .owner)) at (came-fits r rest _ i sp)) (same-mark r _ rest i sp) fa

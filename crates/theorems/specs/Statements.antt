@@ -67,4 +67,4 @@ pub record Demand3 (cs : List Call) : Type 0 where
 pub record IncarnationSound (cs : List Call) : Type 0 where
   pub bounded : (l : LockId) → tally markP (packets (lockIn (after cs) l .wire)) ≤ 16
   pub sound : (l : LockId) (i : ℕ) → i < length (packets (lockIn (after cs) l .wire)) → packetAt (lockIn (after cs) l) i .carried .present ≡ true
-      → current (lockIn (after cs) l) (packetAt (lockIn (after cs) l) i) ≡ eqb (tally markP (packets (lockIn (after cs) l .wire))) 0
+      → current (lockIn (after cs) l .decider) (packetAt (lockIn (after cs) l) i) ≡ eqb (tally markP (packets (lockIn (after cs) l .wire))) 0

@@ -1,5 +1,5 @@
 -- Every step that a call makes is accepted and keeps the invariant: no refusal 9, no refusal 10.
-use Rattle.theorems.specs.Names.{ClientId, Mode, Agent, Address, ToDecider, ToMachine, Message, Packet, Idle, Holding, LockState, Accepted, Stepped, _≡_, refl, ap, Bool, true, false, List, [], _∷_, _++_, ℕ, _+_, _≤_, _<_, arith, length, length-append, leb, ltb, ltb-true, le-leb, any, removed, agentOn, statusOf, blankPacket, packets, Change, Verdict, cannot-place, does, apply, finish, acquires, releases, atDecider, atMachine, names, packetAt, delivers, acquireStep, releaseStep, deliverStep, packets-of}
+use Rattle.theorems.specs.Names.{MachineId, ClientId, Mode, Agent, Address, ToDecider, ToMachine, Message, Packet, Idle, Holding, LockState, Accepted, Stepped, _≡_, refl, ap, Bool, true, false, List, [], _∷_, _++_, ℕ, _+_, _≤_, _<_, arith, length, length-append, leb, ltb, ltb-true, le-leb, any, removed, agentOn, statusOf, blankPacket, packets, Site, siteOf, Verdict, cannot-place, does, apply, finish, atDecider, atMachine, names, machineAt, clientNamed, packetAt, delivers, acquireStep, releaseStep, takes, deliverStep, packets-of}
 use Rattle.theorems.specs.Tally.{tally-at}
 use Rattle.theorems.specs.Weights.{farM, farA, farP}
 use Rattle.theorems.specs.Invariant.{Inv}
@@ -11,14 +11,19 @@ use Rattle.theorems.specs.AtMachine.{good-arrives}
 use Rattle.theorems.specs.Clients.{names-none, good-acquires, good-releases}
 
 good-delivers : (r : LockState) (rest : List Packet) (i : Inv r) (t : Address) (m : Message) (b x : Bool) (a : Agent) → farA t ≡ 0 → Split r (made m t b x a ∷ []) rest
-    → Good r rest (delivers t r (made m t b x a))
+    → Good r (machineAt t) (clientNamed m) rest (delivers t (siteOf r (machineAt t) (clientNamed m)) (made m t b x a))
 unfolding delivers atDecider atMachine farM
-good-delivers r rest i ToDecider m b x a e sp = good-decides r rest i m (r .decider .owner) b x a refl sp
+good-delivers r rest i ToDecider m b x a e sp = good-decides r rest i _ (clientNamed m) (omega arith) m (r .decider .owner) b x a refl sp
 good-delivers r rest i (ToMachine k) m b x a e sp =
     good-arrives r rest i k (ltb-true (k .0) 4 (fit (ltb (k .0) 4) e)) (agentOn r k .agent) m (agentOn r k .present) b x a refl sp
 
+-- what the delivery of a packet comes to
+abbrev pub verdict : LockState → Packet → Verdict
+verdict r p = delivers (p .to) (siteOf r (machineAt (p .to)) (clientNamed (p .message))) p
+
 -- the packet at the index j
-pub good-deliver : (r : LockState) (i : Inv r) (j : ℕ) → j < length (packets (r .wire)) → Good r (removed (packets (r .wire)) j) (delivers (packetAt r j .to) r (packetAt r j))
+pub good-deliver : (r : LockState) (i : Inv r) (j : ℕ) → j < length (packets (r .wire))
+    → Good r (machineAt (packetAt r j .to)) (clientNamed (packetAt r j .message)) (removed (packets (r .wire)) j) (verdict r (packetAt r j))
 good-deliver r i j h =
     let p : Packet = packetAt r j in
     good-delivers r (removed (packets (r .wire)) j) i (p .to) (p .message) (p .rejected) (p .carried .present) (p .carried .agent)
@@ -29,35 +34,36 @@ pub record Sound (s : Stepped) : Type 0 where
   pub taken : s .answer ≡ Accepted
   pub inv : Inv (s .state)
 
-room-after : (ch : Change) (rest : List Packet) (r : LockState) → Inv (apply ch rest r) → length rest + length (ch .sends) ≤ 33
-room-after ch rest r i = omega (arith, wire-bound (apply ch rest r) i, ap length (packets-of (rest ++ ch .sends)), length-append rest (ch .sends))
-
--- a fact of the state after the step, from one of the change
-abbrev pub Says : (Change → Type 0) → Verdict → Type 0
+-- a fact of the state after the step, from one of the site after it and the packets sent
+abbrev pub Says : (Site → List Packet → Type 0) → Verdict → Type 0
 Says P cannot-place = Unit {0}
-Says P (does ch) = P ch
+Says P (does v qs) = P v qs
 
-pub after-step : (P : Change → Type 0) (Q : LockState → Type 0) (v : Verdict) (rest : List Packet) (r : LockState) → Good r rest v → Says P v
-    → ((ch : Change) → P ch → Q (apply ch rest r)) → Q (finish v rest r .state)
-unfolding finish
-after-step P Q cannot-place rest r g p q = absurd g
-after-step P Q (does ch) rest r g p q = let e : leb (length rest + length (ch .sends)) 33 ≡ true = le-leb _ 33 (room-after ch rest r g) in rw e (q ch p)
+module _ (k : MachineId) (c : ClientId) where
+  room-after : (v : Site) (qs rest : List Packet) (r : LockState) → Inv (apply k c v qs rest r) → length rest + length qs ≤ 33
+  room-after v qs rest r i = omega (arith, wire-bound (apply k c v qs rest r) i, ap length (packets-of (rest ++ qs)), length-append rest qs)
 
-sound : (v : Verdict) (rest : List Packet) (r : LockState) → Good r rest v → Sound (finish v rest r)
-unfolding finish
-sound cannot-place rest r g = absurd g
-sound (does ch) rest r g =
-    let e : leb (length rest + length (ch .sends)) 33 ≡ true = le-leb _ 33 (room-after ch rest r g) in
-    rw e (record { taken = refl; inv = g })
+  pub after-step : (P : Site → List Packet → Type 0) (Q : LockState → Type 0) (w : Verdict) (rest : List Packet) (r : LockState) → Good r k c rest w → Says P w
+      → ((v : Site) (qs : List Packet) → P v qs → Q (apply k c v qs rest r)) → Q (finish k c w rest r .state)
+  unfolding finish
+  after-step P Q cannot-place rest r g p q = absurd g
+  after-step P Q (does v qs) rest r g p q = let e : leb (length rest + length qs) 33 ≡ true = le-leb _ 33 (room-after v qs rest r g) in rw e (q v qs p)
+
+  sound : (w : Verdict) (rest : List Packet) (r : LockState) → Good r k c rest w → Sound (finish k c w rest r)
+  unfolding finish
+  sound cannot-place rest r g = absurd g
+  sound (does v qs) rest r g =
+      let e : leb (length rest + length qs) 33 ≡ true = le-leb _ 33 (room-after v qs rest r g) in
+      rw e (record { taken = refl; inv = g })
 
 pub sound-acquire : (r : LockState) (i : Inv r) (c : ClientId) (m : Mode) → c .0 < 16 → statusOf r c ≡ Idle → any (names c) (packets (r .wire)) ≡ false → Sound (acquireStep r c m)
 unfolding acquireStep
-sound-acquire r i c m cl id u = sound (acquires r c m) (packets (r .wire)) r (good-acquires r i c cl id (names-none c (packets (r .wire)) u) m)
+sound-acquire r i c m cl id u = sound _ _ _ (packets (r .wire)) r (good-acquires r i c cl id (names-none c (packets (r .wire)) u) m)
 
 pub sound-release : (r : LockState) (i : Inv r) (c : ClientId) (m : Mode) → c .0 < 16 → statusOf r c ≡ Holding m → Sound (releaseStep r c)
 unfolding releaseStep
-sound-release r i c m cl ho = sound (releases r c) (packets (r .wire)) r (good-releases r i c cl m ho)
+sound-release r i c m cl ho = sound _ _ _ (packets (r .wire)) r (good-releases r i c cl m ho)
 
 pub sound-deliver : (r : LockState) (i : Inv r) (j : ℕ) → j < length (packets (r .wire)) → Sound (deliverStep r j)
-unfolding deliverStep
-sound-deliver r i j h = sound (delivers (packetAt r j .to) r (packetAt r j)) (removed (packets (r .wire)) j) r (good-deliver r i j h)
+unfolding deliverStep takes
+sound-deliver r i j h = sound _ _ (verdict r (packetAt r j)) (removed (packets (r .wire)) j) r (good-deliver r i j h)

@@ -59,9 +59,9 @@ module _ (s : LockState) (i : Inv s) (j : ℕ) (h : j < length (packets (s .wire
       let f : fits (s .decider .owner) (p .carried .present) (p .to) (p .rejected) (p .carried .agent) (p .message) ≡ true = fit _ (came-fits s _ p i sp) in
       away-of (p .carried .agent) (carried-away (s .decider .owner) (p .to) (p .rejected) (p .carried .agent) (p .message) (rw e at f)) .small
 
-  current-sound : current s p ≡ eqb (tally markP (packets (s .wire))) 0
+  current-sound : current (s .decider) p ≡ eqb (tally markP (packets (s .wire))) 0
   current-sound =
-      bool-cases (current s p) (λ q. q ∙ sym (eq-eqb _ 0 (silent-equal s p _ i sp carries (carried ∙ eqb-true _ _ q))))
+      bool-cases (current (s .decider) p) (λ q. q ∙ sym (eq-eqb _ 0 (silent-equal s p _ i sp carries (carried ∙ eqb-true _ _ q))))
       (λ q.
       let d : 1 ≤ tally markP (packets (s .wire)) = differ s p _ i sp carries (omega (arith, carried, small)) (λ w. eqb-false _ _ q (sym carried ∙ w)) in
       q ∙ sym (ne-eqb (tally markP (packets (s .wire))) 0 (λ z. omega (arith, z, d))))

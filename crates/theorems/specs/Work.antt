@@ -1,5 +1,5 @@
 -- The work that is left on a lock: what each packet, agent and client counts for, how a step changes it, and that it is at most 114.
-use Rattle.theorems.specs.Names.{ClientId, Mode, Exclusive, Shared, Owner, Waiter, Agent, AgentSlot, Address, ToDecider, ToMachine, Message, Free, Acquire, Grant, Release, Packet, ClientState, LockState, _≡_, refl, _∙_, Bool, true, false, and-false, false≢true, List, [], _∷_, ℕ, zero, suc, _+_, _*_, _≤_, arith, length, getD, set, ltb, ltb-true, idle, waiters, noAgent, packets, Change, apply, bool-cases}
+use Rattle.theorems.specs.Names.{MachineId, ClientId, Mode, Exclusive, Shared, Owner, Waiter, Agent, AgentSlot, Address, ToDecider, ToMachine, Message, Free, Acquire, Grant, Release, Packet, ClientState, LockState, _≡_, refl, _∙_, Bool, true, false, and-false, false≢true, List, [], _∷_, ℕ, zero, suc, _+_, _*_, _≤_, arith, length, getD, set, ltb, ltb-true, idle, waiters, noAgent, packets, Site, apply, bool-cases}
 use Rattle.theorems.specs.Tally.{flag, gate, tally, tally-at, tally-le, tally-le-at, tally-add, tally-zero, tally-length, sumTo, sum-swap, sum-le, sum-ext, sum-add, sum-one}
 use Rattle.theorems.specs.Weights.{statusAt, slotAt, weight, one, hit, hitW, askM, queuedS, waitingP, markM, listedS, listedP, owedM, owedP, releaseM, releaseP, agentS, agentP, heads, waitF, holdF, misfitS, fits, misfitP}
 use Rattle.theorems.specs.Invariant.{Inv}
@@ -44,17 +44,17 @@ pub work-none : workS noAgent ≡ 0
 unfolding workS noAgent
 work-none = refl
 
-pub work-after : (ch : Change) (gone rest : List Packet) (r : LockState) → Split r gone rest
-    → work (apply ch rest r) + tally workP gone + workS (slotAt r (ch .machine .0)) + 2 * holdF (statusAt r (ch .client .0))
-    ≤ work r + tally workP (ch .sends) + workS (ch .slot) + 2 * holdF (ch .status)
+pub work-after : (r : LockState) (k : MachineId) (c : ClientId) (v : Site) (gone qs rest : List Packet) → Split r gone rest
+    → work (apply k c v qs rest r) + tally workP gone + workS (slotAt r (k .0)) + 2 * holdF (statusAt r (c .0))
+    ≤ work r + tally workP qs + workS (v .slot) + 2 * holdF (v .status)
 unfolding work weight holdF
-work-after ch gone rest r sp =
+work-after r k c v gone qs rest sp =
     omega (
       arith,
       sp .parts workP,
-      packets-after workP ch rest r,
-      tally-set-le workS noAgent work-none (r .agents) (ch .machine .0) (ch .slot),
-      tally-set-le workC idle refl (r .clients) (ch .client .0) (record { status = ch .status }),
+      packets-after workP rest qs,
+      tally-set-le workS noAgent work-none (r .agents) (k .0) (v .slot),
+      tally-set-le workC idle refl (r .clients) (c .0) (record { status = v .status }),
     )
 
 -- ---- sums over the clients' numbers

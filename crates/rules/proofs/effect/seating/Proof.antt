@@ -3,7 +3,7 @@ use Rattle.rules.proofs.effect.seating.Statement.{statement}
 use Rattle.rules.proofs.effect.seating.Tie as tie
 
 returns : tie.Need-returns
-returns c = rw (c .seating-telling .ensures, c .before .status-at .ensures)
+returns c = c .seating-telling .ensures
 
 pub seating-spec : {M : Type 1} → statement M
-seating-spec = tie.close (tie.spec (λ c κs. search needs) (λ c κs. search needs) returns)
+seating-spec = tie.close (tie.spec (λ c κs. search needs) returns)

@@ -3,7 +3,7 @@ use Rattle.rules.proofs.effect.telling.Statement.{statement}
 use Rattle.rules.proofs.effect.telling.Tie as tie
 
 returns : tie.Need-returns
-returns c = rw (c .seating-telling .ensures, c .before .agent-at .ensures)
+returns c = c .seating-telling .ensures
 
 pub telling-spec : {M : Type 1} → statement M
-telling-spec = tie.close (tie.spec (λ c κs. search needs) (λ c κs. search needs) returns)
+telling-spec = tie.close (tie.spec (λ c κs. search needs) returns)

@@ -1,14 +1,14 @@
-use Rattle.rules.proofs.Base.{needs, leaves}
+use Rattle.rules.proofs.Base.{needs, staysIf}
 use Rattle.rules.proofs.leaving.leave.Statement.{statement}
 use Rattle.rules.proofs.leaving.leave.Tie as tie
 
 returns : tie.Need-returns
-unfolding leaves
-returns c = rw (c .seating-telling .ensures, c .before .no-packet .ensures, c .before .before .seat .ensures, ← c .before .before .before .before .before .set-holder .ensures, ← c .before .before .before .before .any-holder .ensures, c .before .before .before .if1 .taken)
+unfolding staysIf
+returns c = rw (c .seating .ensures, c .before .no-packet .ensures, c .before .before .seat .ensures, ← c .before .before .before .before .before .set-holder .ensures, ← c .before .before .before .before .any-holder .ensures, c .before .before .before .if1 .taken)
 
 returns-2 : tie.Need-returns-2
-unfolding leaves
-returns-2 c = rw (c .seating-telling2 .ensures, c .before .one-packet .ensures, c .before .before .no-agent .ensures, c .before .before .before .hand-over .ensures, ← c .before .before .before .before .before .before .set-holder .ensures, ← c .before .before .before .before .before .any-holder .ensures, c .before .before .before .before .if1 .left)
+unfolding staysIf
+returns-2 c = rw (c .seating2 .ensures, c .before .one-packet .ensures, c .before .before .no-agent .ensures, c .before .before .before .hand-over .ensures, ← c .before .before .before .before .before .before .set-holder .ensures, ← c .before .before .before .before .before .any-holder .ensures, c .before .before .before .before .if1 .left)
 
 pub leave-spec : {M : Type 1} → statement M
 leave-spec = tie.close (tie.spec (λ c κs. search needs) (λ c κs. search needs) (λ c κs. search needs) (λ c κs. search needs) (λ c κs. search needs) (λ c κs. search needs) (λ c κs. search needs) (λ c κs. search needs) (λ c κs. search needs) returns returns-2)

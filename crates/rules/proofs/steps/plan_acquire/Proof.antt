@@ -3,15 +3,15 @@ use Rattle.rules.proofs.steps.plan_acquire.Statement.{statement}
 use Rattle.rules.proofs.steps.plan_acquire.Tie as tie
 
 acquire-requires : tie.Need-acquire-requires
-acquire-requires c κs = c .pre .agents _
+acquire-requires c κs = rw (c .site-of .ensures) (c .before .before .pre .agents _)
 
 returns : tie.Need-returns
 unfolding acquireStep
 returns c =
-    let s = c .before .before .args .s in
-    let h = c .before .before .pre .wire in
+    let s = c .before .before .before .before .args .s in
+    let h = c .before .before .before .before .pre .wire in
     let g = removed-none (packets (s .wire)) 33 (omega (arith, length-packets (s .wire) h, h .short)) in
-    rw (c .before .acquire .ensures, g) at (c .judge .ensures s (ap length g ∙ length-packets (s .wire) h))
+    rw (c .before .acquire .ensures, c .before .before .site-of .ensures, c .before .before .before .machine-of .ensures, g) at (c .judge .ensures s (ap length g ∙ length-packets (s .wire) h))
 
 pub plan-acquire-spec : {M : Type 1} → statement M
-plan-acquire-spec = tie.close (tie.spec acquire-requires (λ c κs. search needs) returns)
+plan-acquire-spec = tie.close (tie.spec (λ c κs. search needs) (λ c κs. search needs) acquire-requires (λ c κs. search needs) returns)

@@ -1,0 +1,9 @@
+use Rattle.rules.proofs.Base.{needs}
+use Rattle.rules.proofs.steps.site_of.Statement.{statement}
+use Rattle.rules.proofs.steps.site_of.Tie as tie
+
+returns : tie.Need-returns
+returns c = rw (c .status-at .ensures, c .before .agent-at .ensures)
+
+pub site-of-spec : {M : Type 1} → statement M
+site-of-spec = tie.close (tie.spec (λ c κs. search needs) (λ c κs. search needs) returns)
