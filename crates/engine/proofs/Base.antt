@@ -4,24 +4,21 @@ pub use mathlib.Core.Bool.{Bool, false, false≢true, _&&_, not, and-assoc}
 pub use Prim.Native.Nat.{_-_, _≤_}
 pub use native.Mathlib.Omega.{arith}
 pub use lib.ListN.{length, take, drop, length-set}
+pub use lib.Dec.{eqb}
 pub use borrow.Author.Needs.{needs}
 pub use Rattle.model.specs.Lists.{all}
-pub use Rattle.model.specs.States.{blankWaiter, freshLock}
+pub use Rattle.model.specs.States.{locks, machines, clients, queueCapacity, wireCapacity, blankWaiter, idle, freshLock}
 unfoldable pub use Rattle.model.specs.States.{noAgent, blankPacket}
+pub use Rattle.model.specs.Drain.{allowance}
 pub use Rattle.model.specs.WellFormed.{slotBy}
-pub use Rattle.laws.specs.Lists.{getD-any}
 pub use Rattle.laws.specs.Shapes.{length-packets}
 pub use Rattle.parts.specs.Scans.{join-next, join-end, first-next, first-end}
-pub use lib.Dec.{eqb}
 unfoldable pub use Rattle.model.specs.WellFormed.{shaped, isBlankWaiter, queueFormed, agentFormed, isBlankAgent, slotFormed, messageFormed, packetFormed, isBlankPacket, wireFormed, lockFormed, wellFormed}
 pub use Rattle.engine.specs.FormedLaws.{shaped-short, pass-whole, pass-far, pass-twice, pass-next, pass-end}
 unfoldable pub use Rattle.engine.specs.FormedLaws.{allNew}
-pub use Rattle.engine.specs.Sweep.{holderFrom, holder-here, holder-next, holder-end}
-pub use Rattle.engine.specs.Names.{Stepped}
-pub use Rattle.laws.specs.Formed.{ready}
 pub use Rattle.laws.specs.Kept.{release-formed, deliver-formed}
-pub use Rattle.engine.specs.Sweep.{Course, course-start, delivers-next, releases-next, leg-on, leg-rests, leg-spent, leg-refused, course-on}
-pub use Rattle.engine.specs.Names.{LockState}
-pub use Rattle.laws.specs.Formed.{eight, lock-formed}
-pub use Rattle.engine.specs.Sweep.{sweep, drain-ends, drain-stops, drain-malformed, drain-range}
+pub use Rattle.engine.specs.Names.{LockState, Stepped}
+pub use Rattle.laws.specs.Formed.{ready, lock-formed}
+pub use Rattle.engine.specs.Within.{lock-read}
+pub use Rattle.engine.specs.Sweep.{holderFrom, holder-here, holder-next, holder-end, Course, course-start, delivers-next, releases-next, leg-on, leg-rests, leg-spent, leg-refused, course-on, sweep, drain-ends, drain-stops, drain-malformed, drain-range}
 pub use Rattle.rules.specs.Plans.{plan-accepts, plan-refuses}

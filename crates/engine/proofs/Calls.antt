@@ -9,16 +9,13 @@ pub use borrow.Author.Needs.{needs}
 pub use borrow.Author.Tests.{le-leb, lt-leb, eq-eqb, ne-eqb}
 unfoldable pub use Rattle.model.specs.Lists.{padded}
 unfoldable pub use Rattle.model.specs.States.{wireOf, freshLock, fresh}
-pub use Rattle.model.specs.States.{statusOf, packets, lockIn}
+pub use Rattle.model.specs.States.{locks, machines, tasks, statusOf, packets, lockIn}
 unfoldable pub use Rattle.model.specs.Refusals.{first}
 pub use Rattle.model.specs.Calls.{isIdle, isHolding}
 pub use Rattle.laws.specs.Shapes.{length-packets}
-pub use Rattle.laws.specs.Formed.{ready}
-pub use Rattle.engine.specs.Within.{in-range, first-no}
+pub use Rattle.laws.specs.Formed.{ready, lock-formed}
 unfoldable pub use Rattle.engine.specs.Within.{stepUnless, acquireWithin, releaseWithin, deliverWithin, callWithin}
 unfoldable pub use Rattle.model.specs.Calls.{perform}
-pub use Rattle.laws.specs.Lists.{getD-any}
-pub use Rattle.laws.specs.Formed.{eight, lock-formed}
-pub use Rattle.engine.specs.Within.{perform-accepts, perform-refuses, perform-malformed, perform-range}
+pub use Rattle.engine.specs.Within.{in-range, first-no, lock-read, perform-accepts, perform-refuses, perform-malformed, perform-range}
 pub use Rattle.rules.specs.Plans.{carriedOut, plan-accepts, plan-refuses}
 pub use Rattle.engine.specs.Names.{LockState}

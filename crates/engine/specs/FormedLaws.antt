@@ -11,6 +11,7 @@ use lib.Dec.{eqb, leb}
 use borrow.Author.Tests.{leb-true, ltb-true, lt-ltb, le-ltb, eq-eqb, ne-eqb}
 use Rattle.engine.specs.Names.{ClientId, Waiter}
 use Rattle.model.specs.Lists.{any, all}
+use Rattle.model.specs.States.{clients}
 use Rattle.model.specs.WellFormed.{shaped, isClient, distinct, waiterInRange}
 use Rattle.laws.specs.Tests.{and-left, and-right, bool-cases}
 use Rattle.parts.specs.Scans.{opened, closed}
@@ -53,14 +54,14 @@ regroup true false d a n = refl
 regroup false true d a n = sym (and-false (a && d))
 regroup false false d a n = refl
 
-pub one-pass : (seen : List Bool) (ws : List Waiter) → length seen ≡ 16 → allNew seen ws ≡ (all waiterInRange ws && (distinct ws && all (isNew seen) ws))
+pub one-pass : (seen : List Bool) (ws : List Waiter) → length seen ≡ clients → allNew seen ws ≡ (all waiterInRange ws && (distinct ws && all (isNew seen) ws))
 unfolding allNew distinct
 one-pass seen [] e = refl
 one-pass seen (w ∷ ws) e =
     bool-cases
     (waiterInRange w)
     (λ q.
-    let h : w .client .0 < length seen = omega (arith, ltb-true (w .client .0) 16 q) in
+    let h : w .client .0 < length seen = omega (arith, ltb-true (w .client .0) clients q) in
     rw (q, one-pass (set seen (w .client .0) true) ws (length-set seen (w .client .0) true ∙ e), all-new-more seen (w .client) ws h)
     (regroup (isNew seen w) (all waiterInRange ws) (distinct ws) (not (any (isClient (w .client)) ws)) (all (isNew seen) ws)))
     (λ q. rw q)
@@ -71,26 +72,26 @@ none-seen zero k = refl
 none-seen (suc n) zero = refl
 none-seen (suc n) (suc k) = none-seen n k
 
-all-unseen : (ws : List Waiter) → all (isNew (replicate 16 false)) ws ≡ true
+all-unseen : (ws : List Waiter) → all (isNew (replicate clients false)) ws ≡ true
 all-unseen [] = refl
-all-unseen (w ∷ ws) = rw (none-seen 16 (w .client .0)) (all-unseen ws)
+all-unseen (w ∷ ws) = rw (none-seen clients (w .client .0)) (all-unseen ws)
 
-pub pass-whole : (ws : List Waiter) → allNew (replicate 16 false) ws ≡ (all waiterInRange ws && distinct ws)
-pass-whole ws = rw (one-pass (replicate 16 false) ws refl, all-unseen ws, and-true (distinct ws))
+pub pass-whole : (ws : List Waiter) → allNew (replicate clients false) ws ≡ (all waiterInRange ws && distinct ws)
+pass-whole ws = rw (one-pass (replicate clients false) ws refl, all-unseen ws, and-true (distinct ws))
 
 -- the steps of the pass over the first n
 module _ (xs : List Waiter) (n j : ℕ) (d : Waiter) (k : n ≤ length xs) (seen : List Bool) where
-  pub pass-far : j < n → 16 ≤ getD xs j d .client .0 → allNew seen (drop j (take n xs)) ≡ false
+  pub pass-far : j < n → clients ≤ getD xs j d .client .0 → allNew seen (drop j (take n xs)) ≡ false
   unfolding allNew
-  pass-far h q = rw (opened xs n j d k h, le-ltb (getD xs j d .client .0) 16 q)
+  pass-far h q = rw (opened xs n j d k h, le-ltb (getD xs j d .client .0) clients q)
 
-  pub pass-twice : j < n → getD xs j d .client .0 < 16 → getD seen (getD xs j d .client .0) false ≡ true → allNew seen (drop j (take n xs)) ≡ false
+  pub pass-twice : j < n → getD xs j d .client .0 < clients → getD seen (getD xs j d .client .0) false ≡ true → allNew seen (drop j (take n xs)) ≡ false
   unfolding allNew
-  pass-twice h q e = rw (opened xs n j d k h, lt-ltb (getD xs j d .client .0) 16 q, e)
+  pass-twice h q e = rw (opened xs n j d k h, lt-ltb (getD xs j d .client .0) clients q, e)
 
-  pub pass-next : j < n → getD xs j d .client .0 < 16 → getD seen (getD xs j d .client .0) false ≡ false → allNew (set seen (getD xs j d .client .0) true) (drop (j + 1) (take n xs)) ≡ allNew seen (drop j (take n xs))
+  pub pass-next : j < n → getD xs j d .client .0 < clients → getD seen (getD xs j d .client .0) false ≡ false → allNew (set seen (getD xs j d .client .0) true) (drop (j + 1) (take n xs)) ≡ allNew seen (drop j (take n xs))
   unfolding allNew
-  pass-next h q e = rw (opened xs n j d k h, lt-ltb (getD xs j d .client .0) 16 q, e)
+  pass-next h q e = rw (opened xs n j d k h, lt-ltb (getD xs j d .client .0) clients q, e)
 
   pub pass-end : n ≤ j → allNew seen (drop j (take n xs)) ≡ true
   unfolding allNew

@@ -3,11 +3,8 @@ pub use Rattle.model.specs.declared.LockId.{LockId}
 pub use Rattle.model.specs.declared.MachineId.{MachineId}
 pub use Rattle.model.specs.declared.TaskId.{TaskId}
 pub use Rattle.model.specs.declared.ClientId.{ClientId}
-pub use Rattle.model.specs.declared.Mode.{Mode}
 pub use Rattle.model.specs.declared.Waiter.{Waiter}
 pub use Rattle.model.specs.declared.Packet.{Packet}
-pub use Rattle.model.specs.declared.Status.{Status}
-pub use Rattle.model.specs.declared.Status.the-variants.{Idle, Waiting, Holding}
 pub use Rattle.model.specs.declared.ClientState.{ClientState}
 pub use Rattle.model.specs.declared.LockState.{LockState}
 pub use Rattle.model.specs.declared.Cluster.{Cluster}
@@ -19,4 +16,3 @@ pub use Rattle.model.specs.declared.Answer.{Answer}
 pub use Rattle.model.specs.declared.Answer.the-variants.{Accepted, Refused}
 pub use Rattle.model.specs.declared.Stepped.{Stepped}
 pub use Rattle.model.specs.declared.Outcome.{Outcome}
-pub use Rattle.model.specs.declared.Drained.{Drained}

@@ -1,24 +1,23 @@
 -- The drain of one lock's state, by the same steps as the drain of a cluster, without its calls' tests.
 use mathlib.Core.Path.{_≡_, refl, sym, ap, _∙_}
-use mathlib.Core.Bool.{Bool, true, false, not, true≢false, false≢true}
+use mathlib.Core.Bool.{Bool, true, false, true≢false, false≢true}
 use mathlib.Core.List.{List, [], _∷_}
 use Prim.Native.Nat.{ℕ, zero, suc, _+_, _-_, _*_, _/_, _%_, _<_, _≤_}
 use native.Mathlib.Omega.{arith}
 use native.Mathlib.Numerals.{add-one, sub-one}
 use lib.ListN.{length, drop, getD, set, drop-of-length-le}
 use lib.Seq.{set-set, set-getD, getD-set-same, drop-cons}
-use lib.Dec.{leb}
 use borrow.Author.Tests.{lt-leb, le-leb}
 use Rattle.model.specs.Lists.{pick}
-use Rattle.engine.specs.Names.{LockId, MachineId, TaskId, ClientId, Mode, Packet, Status, Idle, Waiting, Holding, ClientState, LockState, Cluster, Call, ReleaseCall, DeliverCall, Refusal, Malformed, LockRange, NotQuiescent, Answer, Accepted, Refused, Stepped, Drained}
-use Rattle.model.specs.States.{clientOf, packets, lockIn, statusOf, idle, freshLock}
+use Rattle.engine.specs.Names.{LockId, Packet, ClientState, LockState, Cluster, Call, ReleaseCall, DeliverCall, Refusal, Malformed, LockRange, NotQuiescent, Answer, Accepted, Refused, Stepped}
+use Rattle.model.specs.States.{locks, tasks, clients, packets, lockIn, freshLock}
 use Rattle.model.specs.WellFormed.{lockFormed, wellFormed}
-use Rattle.model.specs.Refusals.{_when_, first}
+use Rattle.model.specs.Refusals.{first}
 use Rattle.model.specs.Calls.{isHolding, releaseStep, deliverStep, settled, perform}
-use Rattle.model.specs.Drain.{allowance, Next, none, some, releaseFirst, nextOf, nextCall, Drainage, ending, after-one, drainage, drainRefused, drainEnded, drainUnless, drain}
-use Rattle.laws.specs.Formed.{eight, parts, ready}
+use Rattle.model.specs.Drain.{allowance, Next, none, some, releaseFirst, nextOf, nextCall, Drainage, drainage, drainRefused, drainEnded, drainUnless, drain}
+use Rattle.laws.specs.Formed.{all-locks, parts, ready}
 use Rattle.laws.specs.Shapes.{length-packets}
-use Rattle.laws.specs.Opened.{lockOf, stepOf, outcomeOf, Opened, denied, passed, opened, perform-here}
+use Rattle.laws.specs.Opened.{stepOf}
 use Rattle.laws.specs.Clusters.{perform-formed}
 use Rattle.laws.specs.Next.{next-is, Goes, goes}
 use Rattle.engine.specs.declared.draining.Swept.{Swept}
@@ -92,7 +91,7 @@ module _ (l : LockId) (x : Cluster) (c : Call) (g : Goes l x c) where
   unfolding settled
   call-cluster e = rw (g .step, g .lock, e)
 
-agree : (left n : ℕ) (x : Cluster) (l : LockId) → wellFormed x ≡ true → l .0 < 8 → Agree n x l (drainage left l x) (sweep left n l (lockIn x l))
+agree : (left n : ℕ) (x : Cluster) (l : LockId) → wellFormed x ≡ true → l .0 < locks → Agree n x l (drainage left l x) (sweep left n l (lockIn x l))
 unfolding drainage sweep
 agree zero n x l w h = go (nextCall l (lockIn x l)) refl
   where
@@ -108,7 +107,7 @@ agree (suc left) n x l w h = go (nextCall l (lockIn x l)) refl (λ y v. agree le
     by-step c g e Accepted q ih =
         let s′ = stepOf c (lockIn x l) .state in
         let p : perform c x .cluster ≡ placed x l s′ = call-cluster l x c g q in
-        let here : lockIn (placed x l s′) l ≡ s′ = getD-set-same (x .locks) (l .0) s′ freshLock (rw (eight x w) h) in
+        let here : lockIn (placed x l s′) l ≡ s′ = getD-set-same (x .locks) (l .0) s′ freshLock (rw (all-locks x w) h) in
         let i : Agree (n + 1) (placed x l s′) l (drainage left l (placed x l s′)) (sweep left (n + 1) l s′) = rw here at (ih (placed x l s′) (rw p at (perform-formed c x w))) in
         rw (e, drainage, sweep) (rw (call-answer l x c g, q, p)
         (record { answer = i .answer; count = omega (arith, i .count); cluster = i .cluster ∙ rw (set-set (x .locks) (l .0) s′ _) }))
@@ -120,13 +119,13 @@ agree (suc left) n x l w h = go (nextCall l (lockIn x l)) refl (λ y v. agree le
     go (some c) e ih = by-step c (goes l x c w h (next-is l (lockIn x l) c e)) e (stepOf c (lockIn x l) .answer) refl ih
 
 -- what the drain gives, by how the sweep of the lock's state ended
-module _ (x : Cluster) (l : LockId) (w : wellFormed x ≡ true) (h : l .0 < 8) where
+module _ (x : Cluster) (l : LockId) (w : wellFormed x ≡ true) (h : l .0 < locks) where
   agreed : Agree 0 x l (drainage allowance l x) (sweep allowance 0 l (lockIn x l))
   agreed = agree allowance 0 x l w h
 
   drain-by : drain x l ≡ drainEnded (sweep allowance 0 l (lockIn x l) .answer) x (drainage allowance l x)
   unfolding drain drainUnless first
-  drain-by = rw (w, lt-leb 8 (l .0) h) (ap (λ (r : Answer). drainEnded r x (drainage allowance l x)) (agreed .answer))
+  drain-by = rw (w, lt-leb locks (l .0) h) (ap (λ (r : Answer). drainEnded r x (drainage allowance l x)) (agreed .answer))
 
   pub drain-ends : (v : Swept) → v ≡ sweep allowance 0 l (lockIn x l) → v .answer ≡ Accepted
       → record { answer = Accepted; count = v .count; cluster = placed x l (v .state) } ≡ drain x l
@@ -146,9 +145,9 @@ pub drain-malformed : (x : Cluster) (l : LockId) → wellFormed x ≡ false → 
 unfolding drain drainUnless first
 drain-malformed x l w = rw w
 
-pub drain-range : (x : Cluster) (l : LockId) → wellFormed x ≡ true → 8 ≤ l .0 → drainRefused LockRange x ≡ drain x l
+pub drain-range : (x : Cluster) (l : LockId) → wellFormed x ≡ true → locks ≤ l .0 → drainRefused LockRange x ≡ drain x l
 unfolding drain drainUnless first
-drain-range x l w h = rw (w, le-leb 8 (l .0) h)
+drain-range x l w h = rw (w, le-leb locks (l .0) h)
 
 -- ---- what the drain does next, as the code finds it
 -- the number of the first client that holds, counted from n, or the number past the last
@@ -179,16 +178,20 @@ holder-below n (c ∷ cs) = go (isHolding (c .status)) (holder-below (suc n) cs)
     go true h = omega arith
     go false h = omega arith
 
+-- the release by the client of that number
+abbrev pub releaseBy : LockId → ℕ → Call
+releaseBy l c = ReleaseCall l (record { 0 = c / tasks }) (record { 0 = c % tasks })
+
 holder-found : (l : LockId) (n : ℕ) (cs : List ClientState) → holderFrom n cs < n + length cs
-    → releaseFirst l n cs ≡ some (ReleaseCall l (record { 0 = holderFrom n cs / 4 }) (record { 0 = holderFrom n cs % 4 }))
+    → releaseFirst l n cs ≡ some (releaseBy l (holderFrom n cs))
 unfolding releaseFirst holderFrom
 holder-found l n [] h = absurd (omega arith)
 holder-found l n (c ∷ cs) h = go (isHolding (c .status)) h (holder-found l (suc n) cs)
   where
     go : (b : Bool) → pick b n (holderFrom (suc n) cs) < n + suc (length cs)
-        → (holderFrom (suc n) cs < suc n + length cs → releaseFirst l (suc n) cs ≡ some (ReleaseCall l (record { 0 = holderFrom (suc n) cs / 4 }) (record { 0 = holderFrom (suc n) cs % 4 })))
-        → pick b (some (ReleaseCall l (record { 0 = n / 4 }) (record { 0 = n % 4 }))) (releaseFirst l (suc n) cs)
-        ≡ some (ReleaseCall l (record { 0 = pick b n (holderFrom (suc n) cs) / 4 }) (record { 0 = pick b n (holderFrom (suc n) cs) % 4 }))
+        → (holderFrom (suc n) cs < suc n + length cs → releaseFirst l (suc n) cs ≡ some (releaseBy l (holderFrom (suc n) cs)))
+        → pick b (some (releaseBy l n)) (releaseFirst l (suc n) cs)
+        ≡ some (releaseBy l (pick b n (holderFrom (suc n) cs)))
     go true h ih = refl
     go false h ih = ih (omega arith)
 
@@ -198,7 +201,7 @@ holder-none l n [] h = refl
 holder-none l n (c ∷ cs) h = go (isHolding (c .status)) h (holder-none l (suc n) cs)
   where
     go : (b : Bool) → n + suc (length cs) ≤ pick b n (holderFrom (suc n) cs) → (suc n + length cs ≤ holderFrom (suc n) cs → releaseFirst l (suc n) cs ≡ none)
-        → pick b (some (ReleaseCall l (record { 0 = n / 4 }) (record { 0 = n % 4 }))) (releaseFirst l (suc n) cs) ≡ none
+        → pick b (some (releaseBy l n)) (releaseFirst l (suc n) cs) ≡ none
     go true h ih = absurd (omega arith)
     go false h ih = ih (omega arith)
 
@@ -217,15 +220,15 @@ module _ (l : LockId) (s : LockState) where
   no-packets (p ∷ ps) e = absurd (omega arith)
 
   pub next-releases : length (packets (s .wire)) ≡ 0 → holderFrom 0 (s .clients) < length (s .clients)
-      → nextCall l s ≡ some (ReleaseCall l (record { 0 = holderFrom 0 (s .clients) / 4 }) (record { 0 = holderFrom 0 (s .clients) % 4 }))
+      → nextCall l s ≡ some (releaseBy l (holderFrom 0 (s .clients)))
   next-releases e h = no-packets (packets (s .wire)) e ∙ holder-found l 0 (s .clients) (omega arith)
 
   pub next-none : length (packets (s .wire)) ≡ 0 → length (s .clients) ≤ holderFrom 0 (s .clients) → nextCall l s ≡ none
   next-none e h = no-packets (packets (s .wire)) e ∙ holder-none l 0 (s .clients) (omega arith)
 
   -- the step of the release that the drain makes
-  pub release-of : (c : ℕ) → stepOf (ReleaseCall l (record { 0 = c / 4 }) (record { 0 = c % 4 })) s ≡ releaseStep s (record { 0 = c })
-  release-of c = let q : 4 * (c / 4) + c % 4 ≡ c = omega arith in rw q
+  pub release-of : (c : ℕ) → stepOf (releaseBy l c) s ≡ releaseStep s (record { 0 = c })
+  release-of c = let q : tasks * (c / tasks) + c % tasks ≡ c = omega arith in rw q
 
 -- ---- along a phase: from t₀ with k₀ steps allowed and m₀ behind it, to t with k and m
 pub record Course (k₀ m₀ : ℕ) (t₀ t : LockState) (k m : ℕ) : Type 0 where
@@ -250,11 +253,11 @@ pub delivers-next : (t : LockState) → lockFormed t ≡ true → 0 < t .wire .l
 delivers-next t f h = record { call = λ l. DeliverCall l 0; next = λ l. next-delivers l t (omega (arith, wire-length t f)); step = λ l. refl }
 
 -- d is what the search for a holder found
-pub releases-next : (t : LockState) (d : ℕ) → lockFormed t ≡ true → t .wire .len ≡ 0 → d ≡ holderFrom 0 (t .clients) → d < 16 → Steps t (releaseStep t (record { 0 = d }))
+pub releases-next : (t : LockState) (d : ℕ) → lockFormed t ≡ true → t .wire .len ≡ 0 → d ≡ holderFrom 0 (t .clients) → d < clients → Steps t (releaseStep t (record { 0 = d }))
 releases-next t d f e q h =
     record {
-      call = λ l. ReleaseCall l (record { 0 = d / 4 }) (record { 0 = d % 4 });
-      next = λ l. rw q (next-releases l t (wire-length t f ∙ e) (omega (arith, parts t f .sixteen)));
+      call = λ l. releaseBy l d;
+      next = λ l. rw q (next-releases l t (wire-length t f ∙ e) (omega (arith, parts t f .all-clients)));
       step = λ l. release-of l t d;
     }
 
@@ -268,9 +271,9 @@ module _ {k₀ m₀ : ℕ} {t₀ t : LockState} {k m : ℕ} (c : Course k₀ m�
   leg-ends : (a : Answer) (l : LockId) → swept a m t ≡ sweep k m l t → Legged k₀ m₀ l t₀ (legOf false a)
   leg-ends a l e = record { goes = λ q. absurd (false≢true q); stops = λ q. e ∙ c .same l; formed = c .formed; spent = c .spent; fewer = c .fewer }
 
-  pub leg-rests : (d : ℕ) → t .wire .len ≡ 0 → d ≡ holderFrom 0 (t .clients) → 16 ≤ d → (l : LockId) → Legged k₀ m₀ l t₀ (legOf false Accepted)
+  pub leg-rests : (d : ℕ) → t .wire .len ≡ 0 → d ≡ holderFrom 0 (t .clients) → clients ≤ d → (l : LockId) → Legged k₀ m₀ l t₀ (legOf false Accepted)
   leg-rests d e q h l =
-      leg-ends Accepted l (sweep-rests m l t k (next-none l t (wire-length t (c .formed) ∙ e) (omega (arith, parts t (c .formed) .sixteen))))
+      leg-ends Accepted l (sweep-rests m l t k (next-none l t (wire-length t (c .formed) ∙ e) (omega (arith, parts t (c .formed) .all-clients))))
 
   module _ {o : Stepped} (n : Steps t o) where
     pub leg-spent : k ≡ 0 → (l : LockId) → Legged k₀ m₀ l t₀ (legOf false (Refused NotQuiescent))

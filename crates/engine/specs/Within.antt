@@ -1,23 +1,23 @@
 -- The calls on one lock of a cluster that is known to be well formed, when the lock's number is in range: what is left of each call
 -- is a step on that lock's state.
-use mathlib.Core.Path.{_≡_, refl, sym, ap, _∙_}
+use mathlib.Core.Path.{_≡_, refl, ap}
 use mathlib.Core.Bool.{Bool, true, false, _||_, not}
 use mathlib.Core.List.{List, [], _∷_}
 use Prim.Native.Nat.{ℕ, _<_, _≤_}
 use lib.ListN.{length, getD, set}
 use lib.Seq.{set-getD}
 use lib.Dec.{eqb, leb}
-use borrow.Author.Tests.{le-leb, lt-leb, leb-false, eqb-true}
+use borrow.Author.Tests.{le-leb, lt-leb, leb-false}
 use native.Mathlib.Omega.{arith}
 use Rattle.engine.specs.Names.{LockId, MachineId, TaskId, ClientId, Refusal, Malformed, LockRange, MachineRange, TaskRange, ModeRange, NotIdle, StillNamed, NotHolding, IndexRange, Answer, Accepted, Refused, LockState, Cluster, Call, AcquireCall, ReleaseCall, DeliverCall, Stepped, Outcome}
-use Rattle.model.specs.Lists.{any, all}
-use Rattle.model.specs.States.{machines, tasks, clientOf, modeOf, statusOf, packets, freshLock, lockIn}
-use Rattle.model.specs.WellFormed.{lockFormed, wellFormed}
+use Rattle.model.specs.Lists.{any}
+use Rattle.model.specs.States.{locks, machines, tasks, clientOf, modeOf, statusOf, packets, freshLock, lockIn}
+use Rattle.model.specs.WellFormed.{wellFormed}
 use Rattle.model.specs.Changes.{refused}
 use Rattle.model.specs.Refusals.{Cause, _when_, first}
 use Rattle.model.specs.Calls.{isIdle, isHolding, names, acquireStep, releaseStep, deliverStep, refusing, settled, unless, acquire, release, deliver, perform}
-use Rattle.laws.specs.Tests.{and-left, and-right}
-use Rattle.laws.specs.Lists.{all-at}
+use Rattle.laws.specs.Lists.{getD-any}
+use Rattle.laws.specs.Formed.{all-locks}
 use Rattle.laws.specs.Opened.{lockOf, stepOf, step-refused}
 use Rattle.laws.specs.Clusters.{perform-formed}
 use Rattle.rules.specs.declared.plan.Plan.{Plan}
@@ -73,11 +73,15 @@ all-no n false cs e = (refl, e)
 
 -- where nothing refuses, machine and task are in range
 pub in-range : (k : MachineId) (t : TaskId) (cs : List Cause)
-    → first ((MachineRange when leb machines (k .0)) ∷ (TaskRange when leb tasks (t .0)) ∷ cs) ≡ Accepted → (k .0 < 4) × (t .0 < 4)
+    → first ((MachineRange when leb machines (k .0)) ∷ (TaskRange when leb tasks (t .0)) ∷ cs) ≡ Accepted → (k .0 < machines) × (t .0 < tasks)
 in-range k t cs e =
     let p = all-no MachineRange (leb machines (k .0)) ((TaskRange when leb tasks (t .0)) ∷ cs) e in
     let q = all-no TaskRange (leb tasks (t .0)) cs (p .1) in
-    (leb-false 4 (k .0) (p .0), leb-false 4 (t .0) (q .0))
+    (leb-false machines (k .0) (p .0), leb-false tasks (t .0) (q .0))
+
+-- the lock's state as code reads it, with any default
+pub lock-read : (x : Cluster) (l : LockId) (d : LockState) → wellFormed x ≡ true → l .0 < locks → getD (x .locks) (l .0) d ≡ lockIn x l
+lock-read x l d e h = getD-any (x .locks) (l .0) d freshLock (omega (arith, all-locks x e, h))
 
 -- ---- a call is its tests on the cluster, and then the step on one lock
 unless-within : (a : Answer) (x : Cluster) (l : LockId) (s : LockState) (r : Stepped)
@@ -88,32 +92,32 @@ unless-within (Refused n) x l s r = refl
 
 module _ (x : Cluster) (l : LockId) where
   abbrev causes : List Cause → List Cause
-  causes cs = (Malformed when not (wellFormed x)) ∷ (LockRange when leb 8 (l .0)) ∷ cs
+  causes cs = (Malformed when not (wellFormed x)) ∷ (LockRange when leb locks (l .0)) ∷ cs
 
   malformed : (cs : List Cause) (r : Stepped) → wellFormed x ≡ false → unless (first (causes cs)) x l r ≡ refusing Malformed x
   unfolding unless first
   malformed cs r e = rw e
 
-  out-of-range : (cs : List Cause) (r : Stepped) → wellFormed x ≡ true → 8 ≤ l .0 → unless (first (causes cs)) x l r ≡ refusing LockRange x
+  out-of-range : (cs : List Cause) (r : Stepped) → wellFormed x ≡ true → locks ≤ l .0 → unless (first (causes cs)) x l r ≡ refusing LockRange x
   unfolding unless first
-  out-of-range cs r e h = rw (e, le-leb 8 (l .0) h)
+  out-of-range cs r e h = rw (e, le-leb locks (l .0) h)
 
-  entered : (cs : List Cause) (s : LockState) (r : Stepped) → wellFormed x ≡ true → l .0 < 8
+  entered : (cs : List Cause) (s : LockState) (r : Stepped) → wellFormed x ≡ true → l .0 < locks
       → unless (first (causes cs)) x l r ≡ settled (stepUnless (first cs) s r .answer) x l (stepUnless (first cs) s r .state)
   unfolding first
-  entered cs s r e h = rw (e, lt-leb 8 (l .0) h) (unless-within (first cs) x l s r)
+  entered cs s r e h = rw (e, lt-leb locks (l .0) h) (unless-within (first cs) x l s r)
 
-  acquire-within : (k : MachineId) (t : TaskId) (m : ℕ) → wellFormed x ≡ true → l .0 < 8
+  acquire-within : (k : MachineId) (t : TaskId) (m : ℕ) → wellFormed x ≡ true → l .0 < locks
       → acquire x l k t m ≡ settled (acquireWithin (lockIn x l) k t m .answer) x l (acquireWithin (lockIn x l) k t m .state)
   unfolding acquire acquireWithin
   acquire-within k t m e h = entered _ (lockIn x l) _ e h
 
-  release-within : (k : MachineId) (t : TaskId) → wellFormed x ≡ true → l .0 < 8
+  release-within : (k : MachineId) (t : TaskId) → wellFormed x ≡ true → l .0 < locks
       → release x l k t ≡ settled (releaseWithin (lockIn x l) k t .answer) x l (releaseWithin (lockIn x l) k t .state)
   unfolding release releaseWithin
   release-within k t e h = entered _ (lockIn x l) _ e h
 
-  deliver-within : (i : ℕ) → wellFormed x ≡ true → l .0 < 8
+  deliver-within : (i : ℕ) → wellFormed x ≡ true → l .0 < locks
       → deliver x l i ≡ settled (deliverWithin (lockIn x l) i .answer) x l (deliverWithin (lockIn x l) i .state)
   unfolding deliver deliverWithin
   deliver-within i e h = entered _ (lockIn x l) _ e h
@@ -124,7 +128,7 @@ callWithin (AcquireCall l k t m) s = acquireWithin s k t m
 callWithin (ReleaseCall l k t) s = releaseWithin s k t
 callWithin (DeliverCall l i) s = deliverWithin s i
 
-perform-within : (c : Call) (x : Cluster) → wellFormed x ≡ true → lockOf c .0 < 8
+perform-within : (c : Call) (x : Cluster) → wellFormed x ≡ true → lockOf c .0 < locks
     → perform c x ≡ settled (callWithin c (lockIn x (lockOf c)) .answer) x (lockOf c) (callWithin c (lockIn x (lockOf c)) .state)
 unfolding perform callWithin
 perform-within (AcquireCall l k t m) x e h = acquire-within x l k t m e h
@@ -137,7 +141,7 @@ perform-malformed (AcquireCall l k t m) x e = malformed x l _ _ e
 perform-malformed (ReleaseCall l k t) x e = malformed x l _ _ e
 perform-malformed (DeliverCall l i) x e = malformed x l _ _ e
 
-pub perform-range : (c : Call) (x : Cluster) → wellFormed x ≡ true → 8 ≤ lockOf c .0 → perform c x ≡ refusing LockRange x
+pub perform-range : (c : Call) (x : Cluster) → wellFormed x ≡ true → locks ≤ lockOf c .0 → perform c x ≡ refusing LockRange x
 unfolding perform acquire release deliver
 perform-range (AcquireCall l k t m) x e h = out-of-range x l _ _ e h
 perform-range (ReleaseCall l k t) x e h = out-of-range x l _ _ e h
@@ -159,7 +163,7 @@ within-refused (DeliverCall l i) s r e = unless-refused (first (deliverTests s i
 abbrev pub writtenBy : Call → Cluster → Cluster
 writtenBy c x = record { locks = set (x .locks) (lockOf c .0) (callWithin c (lockIn x (lockOf c)) .state) }
 
-pub perform-whole : (c : Call) (x : Cluster) → wellFormed x ≡ true → lockOf c .0 < 8
+pub perform-whole : (c : Call) (x : Cluster) → wellFormed x ≡ true → lockOf c .0 < locks
     → perform c x ≡ record { answer = callWithin c (lockIn x (lockOf c)) .answer; cluster = writtenBy c x }
 unfolding settled
 perform-whole c x e h = rw (perform-within c x e h) (go (callWithin c (lockIn x (lockOf c)) .answer) refl)
@@ -170,7 +174,7 @@ perform-whole c x e h = rw (perform-within c x e h) (go (callWithin c (lockIn x 
     go (Refused r) q = rw (within-refused c (lockIn x (lockOf c)) r q, set-getD (x .locks) (lockOf c .0) freshLock)
 
 -- the call by its plan: written where it accepts, the cluster left where it refuses
-module _ (c : Call) (x : Cluster) (p : Plan) (e : wellFormed x ≡ true) (h : lockOf c .0 < 8) (g : Plans p (lockIn x (lockOf c)) (callWithin c (lockIn x (lockOf c)))) where
+module _ (c : Call) (x : Cluster) (p : Plan) (e : wellFormed x ≡ true) (h : lockOf c .0 < locks) (g : Plans p (lockIn x (lockOf c)) (callWithin c (lockIn x (lockOf c)))) where
   pub perform-accepts : p .answer ≡ Accepted
       → record { answer = p .answer; cluster = record { locks = set (x .locks) (lockOf c .0) (carriedOut p (lockIn x (lockOf c))) } } ≡ perform c x
   perform-accepts q = rw (q, perform-whole c x e h, ← plan-accepts g q)
@@ -178,8 +182,8 @@ module _ (c : Call) (x : Cluster) (p : Plan) (e : wellFormed x ≡ true) (h : lo
   pub perform-refuses : (n : Refusal) → p .answer ≡ Refused n → record { answer = p .answer; cluster = x } ≡ perform c x
   perform-refuses n q = rw (q, perform-whole c x e h, ← plan-refuses g n q, set-getD (x .locks) (lockOf c .0) freshLock)
 
-pub perform-written : (c : Call) (x : Cluster) → wellFormed x ≡ true → lockOf c .0 < 8 → perform c x .cluster ≡ writtenBy c x
+pub perform-written : (c : Call) (x : Cluster) → wellFormed x ≡ true → lockOf c .0 < locks → perform c x .cluster ≡ writtenBy c x
 perform-written c x e h = ap (λ (o : Outcome). o .cluster) (perform-whole c x e h)
 
-pub written-formed : (c : Call) (x : Cluster) → wellFormed x ≡ true → lockOf c .0 < 8 → wellFormed (writtenBy c x) ≡ true
+pub written-formed : (c : Call) (x : Cluster) → wellFormed x ≡ true → lockOf c .0 < locks → wellFormed (writtenBy c x) ≡ true
 written-formed c x e h = rw (← perform-written c x e h) (perform-formed c x e)

@@ -1,13 +1,16 @@
 // A fresh cluster, and a refused call.
 use model::Answer;
+use model::CLIENTS;
 use model::ClientState;
 use model::Cluster;
 use model::Decider;
 use model::LockState;
+use model::MACHINES;
 use model::Outcome;
 use model::Owner;
 use model::Refusal;
 use model::Status;
+use model::WIRE_CAPACITY;
 use model::Wire;
 use parts::blank::blank_packet;
 use parts::blank::no_agent;
@@ -21,7 +24,7 @@ pub fn empty_wire() -> Wire
 {
     let p = blank_packet();
     Wire {
-        slots: [p; 33],
+        slots: [p; WIRE_CAPACITY],
         len: 0,
     }
 }
@@ -40,8 +43,8 @@ pub fn fresh_lock() -> LockState
     let w = empty_wire();
     LockState {
         decider: d,
-        agents: [x; 4],
-        clients: [c; 16],
+        agents: [x; MACHINES],
+        clients: [c; CLIENTS],
         wire: w,
     }
 }

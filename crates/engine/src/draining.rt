@@ -1,12 +1,15 @@
-// The drain of one lock's state. Each phase makes its steps in a loop and only then hands over to the other: a call for each of 16,384
-// steps would not fit the stack.
+// The drain of one lock's state. Each phase makes its steps in a loop and only then hands over to the other: a call for each step
+// would not fit the stack.
 use crate::formed::well_formed;
 use crate::within::is_holding;
+use model::ALLOWANCE;
 use model::Answer;
+use model::CLIENTS;
 use model::ClientId;
 use model::ClientState;
 use model::Cluster;
 use model::Drained;
+use model::LOCKS;
 use model::LockId;
 use model::LockState;
 use model::Refusal;
@@ -16,8 +19,9 @@ use rules::steps::plan_release;
 ghost use mathlib.Core.Path.{_≡_};
 ghost use mathlib.Core.Bool.{true};
 ghost use Prim.Native.Nat.{_+_, _<_, _≤_};
+ghost use Rattle.model.specs.States.{locks};
 ghost use Rattle.model.specs.WellFormed.{lockFormed, wellFormed};
-ghost use Rattle.model.specs.Drain.{drainRefused, drain};
+ghost use Rattle.model.specs.Drain.{allowance, drainRefused, drain};
 ghost use Rattle.engine.specs.Names.{LockId};
 ghost use Rattle.engine.specs.Sweep.{swept, sweep, Legged, holderFrom};
 
@@ -28,12 +32,12 @@ pub struct Swept {
     pub state: LockState,
 }
 
-// The number of the first client that holds, or 16.
-fn first_holder(a: [ClientState; 16]) -> u8
+// The number of the first client that holds, or the number past the last.
+fn first_holder(a: [ClientState; CLIENTS]) -> u8
     ensures { λ r. ⌜ r ≡ holderFrom 0 a ⌝ }
 {
     let mut j: u8 = 0;
-    while j < 16 {
+    while j < CLIENTS as u8 {
         let x = a[j as usize];
         let st = x.status;
         if is_holding(st) {
@@ -67,7 +71,7 @@ fn leg_of(goes_on: bool, answer: Answer, left: u16, count: u16, state: LockState
 
 // Delivers index 0 until the wire is empty.
 fn deliver_all(left: u16, n: u16, s: LockState) -> Leg
-    requires { ⌜ (lockFormed s ≡ true) × (n + left ≤ 16384) ⌝ }
+    requires { ⌜ (lockFormed s ≡ true) × (n + left ≤ allowance) ⌝ }
     ensures { λ r. ⌜ ((l : LockId) → Legged left n l s r) × (r .«goes_on» ≡ true → r .state .wire .len ≡ 0) ⌝ }
 {
     let mut t = s;
@@ -94,7 +98,7 @@ fn deliver_all(left: u16, n: u16, s: LockState) -> Leg
 
 // Releases the holding client of lowest number until a packet is sent or nobody holds.
 fn release_all(left: u16, n: u16, s: LockState) -> Leg
-    requires { ⌜ (lockFormed s ≡ true) × ((n + left ≤ 16384) × (s .wire .len ≡ 0)) ⌝ }
+    requires { ⌜ (lockFormed s ≡ true) × ((n + left ≤ allowance) × (s .wire .len ≡ 0)) ⌝ }
     ensures { λ r. ⌜ ((l : LockId) → Legged left n l s r) × (r .«goes_on» ≡ true → r .left < left) ⌝ }
 {
     let mut t = s;
@@ -103,7 +107,7 @@ fn release_all(left: u16, n: u16, s: LockState) -> Leg
     while t.wire.len == 0 {
         let clients = t.clients;
         let c = first_holder(clients);
-        if 16 <= c {
+        if CLIENTS as u8 <= c {
             return leg_of(false, Answer::Accepted, k, m, t);
         }
         if k == 0 {
@@ -136,7 +140,7 @@ fn ended(answer: Answer, count: u16, state: LockState) -> Swept
 
 // Delivering hands over to releasing when the wire is empty.
 pub fn deliver_phase(left: u16, n: u16, s: LockState) -> Swept
-    requires { ⌜ (lockFormed s ≡ true) × (n + left ≤ 16384) ⌝ }
+    requires { ⌜ (lockFormed s ≡ true) × (n + left ≤ allowance) ⌝ }
     ensures { λ r. ⌜ ((l : LockId) → r ≡ sweep left n l s) ⌝ }
 {
     let g = deliver_all(left, n, s);
@@ -150,7 +154,7 @@ pub fn deliver_phase(left: u16, n: u16, s: LockState) -> Swept
 
 // And back, with fewer steps left.
 pub fn release_phase(left: u16, n: u16, s: LockState) -> Swept
-    requires { ⌜ (lockFormed s ≡ true) × ((n + left ≤ 16384) × (s .wire .len ≡ 0)) ⌝ }
+    requires { ⌜ (lockFormed s ≡ true) × ((n + left ≤ allowance) × (s .wire .len ≡ 0)) ⌝ }
     ensures { λ r. ⌜ ((l : LockId) → r ≡ sweep left n l s) ⌝ }
 {
     let g = release_all(left, n, s);
@@ -174,12 +178,12 @@ fn drain_refused(r: Refusal, x: Cluster) -> Drained
 
 // A well-formed cluster and a lock of it: only that lock's state is drained.
 fn drain_lock(x: Cluster, l: LockId) -> Drained
-    requires { ⌜ (wellFormed x ≡ true) × (l .0 < 8) ⌝ }
+    requires { ⌜ (wellFormed x ≡ true) × (l .0 < locks) ⌝ }
     ensures { λ r. ⌜ r ≡ drain x l ⌝ }
 {
     let i = l.0 as usize;
     let s = x.locks[i];
-    let w = deliver_phase(16384, 0, s);
+    let w = deliver_phase(ALLOWANCE, 0, s);
     let a = w.answer;
     match a {
         Answer::Accepted => {
@@ -201,7 +205,7 @@ pub fn drain(x: Cluster, l: LockId) -> Drained
     ensures { λ r. ⌜ r ≡ drain x l ⌝ }
 {
     if well_formed(x) {
-        if l.0 < 8 {
+        if l.0 < LOCKS as u8 {
             drain_lock(x, l)
         } else {
             drain_refused(Refusal::LockRange, x)

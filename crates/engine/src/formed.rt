@@ -3,15 +3,20 @@
 use model::Address;
 use model::Agent;
 use model::AgentSlot;
+use model::CLIENTS;
 use model::ClientId;
 use model::ClientState;
 use model::Cluster;
+use model::LOCKS;
 use model::LockState;
+use model::MACHINES;
 use model::Message;
 use model::Mode;
 use model::Owner;
 use model::Packet;
+use model::QUEUE_CAPACITY;
 use model::Queue;
+use model::WIRE_CAPACITY;
 use model::Waiter;
 use model::Wire;
 ghost use mathlib.Core.Path.{_≡_};
@@ -20,7 +25,7 @@ ghost use Prim.Native.Nat.{_≤_};
 ghost use lib.ListN.{length, take};
 ghost use lib.Dec.{eqb};
 ghost use Rattle.model.specs.Lists.{all};
-ghost use Rattle.model.specs.States.{isShared};
+ghost use Rattle.model.specs.States.{locks, machines, clients, queueCapacity, wireCapacity, isShared};
 ghost use Rattle.model.specs.declared.Message.the-variants.{Free};
 ghost use Rattle.model.specs.WellFormed.{clientInRange, ownerInRange, addressInRange, shaped, isBlankWaiter, distinct, waiterInRange, queueFormed, agentFormed, isBlankAgent, slotFormed, toDecider, messageFormed, packetFormed, isFree, isBlankPacket, wireFormed, lockFormed, wellFormed};
 
@@ -43,12 +48,12 @@ pub fn is_blank_waiter(w: Waiter) -> bool
     (c.0 == 0) & e
 }
 
-fn blank_waiters(a: [Waiter; 16]) -> bool
-    ensures { λ r. ⌜ r ≡ shaped 16 isBlankWaiter a 0 ⌝ }
+fn blank_waiters(a: [Waiter; QUEUE_CAPACITY]) -> bool
+    ensures { λ r. ⌜ r ≡ shaped queueCapacity isBlankWaiter a 0 ⌝ }
 {
     let mut ok = true;
     let mut j: usize = 0;
-    while j < 16 {
+    while j < QUEUE_CAPACITY {
         let w = a[j];
         let b = is_blank_waiter(w);
         ok = ok & b;
@@ -57,12 +62,12 @@ fn blank_waiters(a: [Waiter; 16]) -> bool
     ok
 }
 
-fn no_holder(h: [bool; 16]) -> bool
-    ensures { λ r. ⌜ r ≡ (eqb (length h) 16 && all not h) ⌝ }
+fn no_holder(h: [bool; CLIENTS]) -> bool
+    ensures { λ r. ⌜ r ≡ (eqb (length h) clients && all not h) ⌝ }
 {
     let mut ok = true;
     let mut j: usize = 0;
-    while j < 16 {
+    while j < CLIENTS {
         ok = ok & !h[j];
         j += 1;
     }
@@ -119,12 +124,12 @@ pub fn is_blank_packet(p: Packet) -> bool
 }
 
 // ---- a queue and an agent
-pub fn shaped_waiters(a: [Waiter; 16], n: usize) -> bool
-    ensures { λ r. ⌜ r ≡ shaped 16 isBlankWaiter a n ⌝ }
+pub fn shaped_waiters(a: [Waiter; QUEUE_CAPACITY], n: usize) -> bool
+    ensures { λ r. ⌜ r ≡ shaped queueCapacity isBlankWaiter a n ⌝ }
 {
-    let mut ok = n <= 16;
+    let mut ok = n <= QUEUE_CAPACITY;
     let mut j = n;
-    while j < 16 {
+    while j < QUEUE_CAPACITY {
         let w = a[j];
         let b = is_blank_waiter(w);
         ok = ok & b;
@@ -134,17 +139,17 @@ pub fn shaped_waiters(a: [Waiter; 16], n: usize) -> bool
 }
 
 // One pass over the first n, with the set of the clients seen so far.
-pub fn waiters_formed(a: [Waiter; 16], n: usize) -> bool
-    requires { ⌜ n ≤ 16 ⌝ }
+pub fn waiters_formed(a: [Waiter; QUEUE_CAPACITY], n: usize) -> bool
+    requires { ⌜ n ≤ queueCapacity ⌝ }
     ensures { λ r. ⌜ r ≡ (all waiterInRange (take n a) && distinct (take n a)) ⌝ }
 {
-    let mut seen = [false; 16];
+    let mut seen = [false; CLIENTS];
     let mut j: usize = 0;
     while j < n {
         let w = a[j];
         let c = w.client;
         let i = c.0 as usize;
-        if 16 <= i {
+        if CLIENTS <= i {
             return false;
         }
         if seen[i] {
@@ -169,8 +174,8 @@ pub fn queue_formed(q: Queue) -> bool
 }
 
 // An array's length is known of a parameter, and so to its callers.
-fn has_all_holders(h: [bool; 16]) -> bool
-    ensures { λ r. ⌜ r ≡ eqb (length h) 16 ⌝ }
+fn has_all_holders(h: [bool; CLIENTS]) -> bool
+    ensures { λ r. ⌜ r ≡ eqb (length h) clients ⌝ }
 {
     true
 }
@@ -200,7 +205,7 @@ pub fn address_in_range(t: Address) -> bool
 {
     match t {
         Address::Decider => true,
-        Address::Machine(k) => k.0 < 4,
+        Address::Machine(k) => k.0 < MACHINES as u8,
     }
 }
 
@@ -208,14 +213,14 @@ pub fn address_in_range(t: Address) -> bool
 fn request_formed(c: ClientId, carries: bool, rejected: bool) -> bool
     ensures { λ r. ⌜ r ≡ (clientInRange c && (not carries && not rejected)) ⌝ }
 {
-    (c.0 < 16) & (!carries & !rejected)
+    (c.0 < CLIENTS as u8) & (!carries & !rejected)
 }
 
 fn grant_formed(c: ClientId, carries: bool, rejected: bool, t: Address) -> bool
     ensures { λ r. ⌜ r ≡ (clientInRange c && (not rejected || (carries && not (toDecider t)))) ⌝ }
 {
     let at_decider = to_decider(t);
-    (c.0 < 16) & (!rejected | (carries & !at_decider))
+    (c.0 < CLIENTS as u8) & (!rejected | (carries & !at_decider))
 }
 
 fn free_formed(carries: bool, rejected: bool, t: Address) -> bool
@@ -257,12 +262,12 @@ pub fn packet_formed(p: Packet) -> bool
 }
 
 // ---- a wire
-pub fn shaped_packets(a: [Packet; 33], n: usize) -> bool
-    ensures { λ r. ⌜ r ≡ shaped 33 isBlankPacket a n ⌝ }
+pub fn shaped_packets(a: [Packet; WIRE_CAPACITY], n: usize) -> bool
+    ensures { λ r. ⌜ r ≡ shaped wireCapacity isBlankPacket a n ⌝ }
 {
-    let mut ok = n <= 33;
+    let mut ok = n <= WIRE_CAPACITY;
     let mut j = n;
-    while j < 33 {
+    while j < WIRE_CAPACITY {
         let p = a[j];
         let b = is_blank_packet(p);
         ok = ok & b;
@@ -271,8 +276,8 @@ pub fn shaped_packets(a: [Packet; 33], n: usize) -> bool
     ok
 }
 
-pub fn packets_formed(a: [Packet; 33], n: usize) -> bool
-    requires { ⌜ n ≤ 33 ⌝ }
+pub fn packets_formed(a: [Packet; WIRE_CAPACITY], n: usize) -> bool
+    requires { ⌜ n ≤ wireCapacity ⌝ }
     ensures { λ r. ⌜ r ≡ all packetFormed (take n a) ⌝ }
 {
     let mut ok = true;
@@ -304,16 +309,16 @@ pub fn owner_in_range(o: Owner) -> bool
 {
     match o {
         Owner::Free => true,
-        Owner::Owned(_, k) => k.0 < 4,
+        Owner::Owned(_, k) => k.0 < MACHINES as u8,
     }
 }
 
-pub fn slots_formed(a: [AgentSlot; 4]) -> bool
-    ensures { λ r. ⌜ r ≡ (eqb (length a) 4 && all slotFormed a) ⌝ }
+pub fn slots_formed(a: [AgentSlot; MACHINES]) -> bool
+    ensures { λ r. ⌜ r ≡ (eqb (length a) machines && all slotFormed a) ⌝ }
 {
     let mut ok = true;
     let mut j: usize = 0;
-    while j < 4 {
+    while j < MACHINES {
         let x = a[j];
         let b = slot_formed(x);
         ok = ok & b;
@@ -322,8 +327,8 @@ pub fn slots_formed(a: [AgentSlot; 4]) -> bool
     ok
 }
 
-fn has_all_clients(a: [ClientState; 16]) -> bool
-    ensures { λ r. ⌜ r ≡ eqb (length a) 16 ⌝ }
+fn has_all_clients(a: [ClientState; CLIENTS]) -> bool
+    ensures { λ r. ⌜ r ≡ eqb (length a) clients ⌝ }
 {
     true
 }
@@ -342,12 +347,12 @@ pub fn lock_formed(s: LockState) -> bool
     owner & (agents & (clients & wire))
 }
 
-fn locks_formed(a: [LockState; 8]) -> bool
-    ensures { λ r. ⌜ r ≡ (eqb (length a) 8 && all lockFormed a) ⌝ }
+fn locks_formed(a: [LockState; LOCKS]) -> bool
+    ensures { λ r. ⌜ r ≡ (eqb (length a) locks && all lockFormed a) ⌝ }
 {
     let mut ok = true;
     let mut j: usize = 0;
-    while j < 8 {
+    while j < LOCKS {
         let s = a[j];
         let b = lock_formed(s);
         ok = ok & b;

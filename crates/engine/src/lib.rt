@@ -8,6 +8,7 @@ use crate::within::plan_call;
 use model::Answer;
 use model::Call;
 use model::Cluster;
+use model::LOCKS;
 use model::LockId;
 use model::MachineId;
 use model::Outcome;
@@ -29,7 +30,7 @@ pub fn fresh() -> Cluster
     ensures { λ r. ⌜ r ≡ fresh ⌝ }
 {
     let s = fresh_lock();
-    Cluster { locks: [s; 8] }
+    Cluster { locks: [s; LOCKS] }
 }
 
 pub fn acquire(x: Cluster, lock: LockId, machine: MachineId, task: TaskId, mode: u8) -> Outcome
@@ -71,7 +72,7 @@ pub fn perform(c: Call, x: Cluster) -> Outcome
 {
     if well_formed(x) {
         let l = lock_of(c);
-        if l.0 < 8 {
+        if l.0 < LOCKS as u8 {
             let mut y = x;
             let i = l.0 as usize;
             let s = y.locks[i];

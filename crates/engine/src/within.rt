@@ -5,11 +5,13 @@ use model::Call;
 use model::ClientId;
 use model::LockId;
 use model::LockState;
+use model::MACHINES;
 use model::MachineId;
 use model::Mode;
 use model::Refusal;
 use model::Status;
 use model::Stepped;
+use model::TASKS;
 use model::TaskId;
 use parts::state::status_at;
 use parts::wire::is_named;
@@ -23,7 +25,7 @@ ghost use mathlib.Core.Path.{_≡_};
 ghost use mathlib.Core.Bool.{true, _||_};
 ghost use Prim.Native.Nat.{_<_};
 ghost use lib.Dec.{eqb};
-ghost use Rattle.model.specs.States.{clientOf, modeOf};
+ghost use Rattle.model.specs.States.{machines, tasks, clientOf, modeOf};
 ghost use Rattle.model.specs.WellFormed.{lockFormed};
 ghost use Rattle.model.specs.Refusals.{first};
 ghost use Rattle.model.specs.Calls.{isIdle, isHolding};
@@ -33,10 +35,10 @@ ghost use Rattle.rules.specs.Plans.{Plans};
 ghost use Rattle.engine.specs.Within.{idleTests, acquireTests, holdingTests, releaseTests, acquireWithin, releaseWithin, deliverWithin, callWithin};
 
 pub fn client_of(k: MachineId, t: TaskId) -> ClientId
-    requires { ⌜ (k .0 < 4) × (t .0 < 4) ⌝ }
+    requires { ⌜ (k .0 < machines) × (t .0 < tasks) ⌝ }
     ensures { λ r. ⌜ r ≡ clientOf k t ⌝ }
 {
-    ClientId(4 * k.0 + t.0)
+    ClientId(TASKS as u8 * k.0 + t.0)
 }
 
 pub fn is_mode(m: u8) -> bool
@@ -96,9 +98,9 @@ pub fn acquire_test(s: LockState, k: MachineId, t: TaskId, m: u8) -> Answer
     requires { ⌜ CanonicalWire (s .wire) ⌝ }
     ensures { λ r. ⌜ r ≡ first (acquireTests s k t m) ⌝ }
 {
-    if 4 <= k.0 {
+    if MACHINES as u8 <= k.0 {
         Answer::Refused(Refusal::MachineRange)
-    } else if 4 <= t.0 {
+    } else if TASKS as u8 <= t.0 {
         Answer::Refused(Refusal::TaskRange)
     } else if is_mode(m) {
         idle_test(s, client_of(k, t))
@@ -121,9 +123,9 @@ pub fn holding_test(s: LockState, c: ClientId) -> Answer
 pub fn release_test(s: LockState, k: MachineId, t: TaskId) -> Answer
     ensures { λ r. ⌜ r ≡ first (releaseTests s k t) ⌝ }
 {
-    if 4 <= k.0 {
+    if MACHINES as u8 <= k.0 {
         Answer::Refused(Refusal::MachineRange)
-    } else if 4 <= t.0 {
+    } else if TASKS as u8 <= t.0 {
         Answer::Refused(Refusal::TaskRange)
     } else {
         holding_test(s, client_of(k, t))

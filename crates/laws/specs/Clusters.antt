@@ -1,7 +1,7 @@
--- Every call keeps a cluster well formed, and so does every list of calls.
+-- Every call keeps a cluster well formed.
 use mathlib.Core.Path.{_≡_, refl, _∙_}
 use mathlib.Core.Bool.{true}
-use mathlib.Core.List.{List, [], _∷_}
+use mathlib.Core.List.{[]}
 use Prim.Native.Nat.{_<_}
 use native.Mathlib.Decide.{ℕ-discrete}
 use native.Mathlib.Omega.{arith}
@@ -9,11 +9,11 @@ use lib.ListN.{length, set, length-set}
 use lib.Dec.{eqb}
 use borrow.Author.Tests.{eq-eqb}
 use Rattle.laws.specs.Names.{LockId, LockState, Cluster, Call, Answer, Accepted, Refused}
-use Rattle.model.specs.States.{freshLock, fresh, lockIn}
+use Rattle.model.specs.States.{freshLock, fresh, lockIn, locks}
 use Rattle.model.specs.WellFormed.{lockFormed, wellFormed}
-use Rattle.model.specs.Calls.{settled, perform, run}
+use Rattle.model.specs.Calls.{settled, perform}
 use Rattle.laws.specs.Tests.{and-right, both}
-use Rattle.laws.specs.Formed.{no-agent-formed, eight, lock-formed}
+use Rattle.laws.specs.Formed.{no-agent-formed, all-locks, lock-formed}
 use Rattle.laws.specs.Lists.{all-set, all-replicate}
 use Rattle.laws.specs.Making.{wire-formed}
 use Rattle.laws.specs.Kept.{acquire-formed, release-formed, deliver-formed}
@@ -25,7 +25,7 @@ fresh-lock-formed = rw no-agent-formed (wire-formed [] refl (omega arith))
 
 pub fresh-formed : wellFormed fresh ≡ true
 unfolding wellFormed fresh
-fresh-formed = all-replicate lockFormed 8 freshLock fresh-lock-formed
+fresh-formed = all-replicate lockFormed locks freshLock fresh-lock-formed
 
 -- the state of each lock after a call
 pub step-formed : (c : Call) (s : LockState) → Allowed c s → lockFormed s ≡ true → lockFormed (stepOf c s .state) ≡ true
@@ -36,8 +36,8 @@ step-formed _ s (may-deliver {i = i} h) f = deliver-formed s i h f
 settled-formed : (a : Answer) (x : Cluster) (l : LockId) (s : LockState) → wellFormed x ≡ true → lockFormed s ≡ true → wellFormed (settled a x l s .cluster) ≡ true
 unfolding settled wellFormed
 settled-formed Accepted x l s w f =
-    both (eqb (length (set (x .locks) (l .0) s)) 8) _ (eq-eqb _ 8 (length-set (x .locks) (l .0) s ∙ eight x w))
-    (all-set lockFormed (x .locks) (l .0) s (and-right (eqb (length (x .locks)) 8) _ w) f)
+    both (eqb (length (set (x .locks) (l .0) s)) locks) _ (eq-eqb _ locks (length-set (x .locks) (l .0) s ∙ all-locks x w))
+    (all-set lockFormed (x .locks) (l .0) s (and-right (eqb (length (x .locks)) locks) _ w) f)
 settled-formed (Refused r) x l s w f = w
 
 pub perform-formed : (c : Call) (x : Cluster) → wellFormed x ≡ true → wellFormed (perform c x .cluster) ≡ true
@@ -47,25 +47,15 @@ perform-formed c x w = go (opened c x w)
     go (denied r m n e) = rw e w
     go (passed h a e) = rw e (settled-formed _ x (lockOf c) _ w (step-formed c (lockIn x (lockOf c)) a (lock-formed x (lockOf c) w h)))
 
-pub run-formed : (cs : List Call) (x : Cluster) → wellFormed x ≡ true → wellFormed (run cs x) ≡ true
-unfolding run
-run-formed [] x w = w
-run-formed (c ∷ cs) x w = run-formed cs (perform c x .cluster) (perform-formed c x w)
-
--- A fact of a lock's state that each allowed step keeps is kept, of every lock, by each call and each list of calls.
+-- A fact of a lock's state that each allowed step keeps is kept, of every lock, by each call.
 module _ (P : LockState → Type 0) (step : (c : Call) (s : LockState) → Allowed c s → lockFormed s ≡ true → P s → P (stepOf c s .state)) where
   pub perform-keeps : (c : Call) (x : Cluster) (j : LockId) → wellFormed x ≡ true → P (lockIn x j) → P (lockIn (perform c x .cluster) j)
   perform-keeps c x j w p = go (opened c x w)
     where
-      here : lockOf c .0 < 8 → Allowed c (lockIn x (lockOf c)) → perform c x ≡ outcomeOf c x → Dec (j .0 ≡ lockOf c .0) → P (lockIn (perform c x .cluster) j)
+      here : lockOf c .0 < locks → Allowed c (lockIn x (lockOf c)) → perform c x ≡ outcomeOf c x → Dec (j .0 ≡ lockOf c .0) → P (lockIn (perform c x .cluster) j)
       here h a e (yes q) = rw (q, perform-here c x w h e) (step c (lockIn x (lockOf c)) a (lock-formed x (lockOf c) w h) (rw q at p))
       here h a e (no n) = rw (perform-elsewhere c x j n) p
 
       go : Opened c x → P (lockIn (perform c x .cluster) j)
       go (denied r m n e) = rw e p
       go (passed h a e) = here h a e (ℕ-discrete (j .0) (lockOf c .0))
-
-  pub run-keeps : (cs : List Call) (x : Cluster) (j : LockId) → wellFormed x ≡ true → P (lockIn x j) → P (lockIn (run cs x) j)
-  unfolding run
-  run-keeps [] x j w p = p
-  run-keeps (c ∷ cs) x j w p = run-keeps cs (perform c x .cluster) j (perform-formed c x w) (perform-keeps c x j w p)

@@ -10,7 +10,7 @@ use lib.Dec.{eqb, leb}
 use borrow.Author.Tests.{eqb-true, leb-true, not-true}
 use Rattle.model.specs.Lists.{all, padded}
 use Rattle.laws.specs.Names.{LockId, MachineId, Mode, Exclusive, Shared, Address, ToDecider, ToMachine, Message, Free, Acquire, Grant, Release, Waiter, Queue, Agent, AgentSlot, Packet, Wire, LockState, Cluster}
-use Rattle.model.specs.States.{blankPacket, blankWaiter, packets, agentOn, noAgent, newAgent, queueOf, noHolders, isShared, freshLock, lockIn}
+use Rattle.model.specs.States.{blankPacket, blankWaiter, packets, agentOn, noAgent, newAgent, queueOf, noHolders, isShared, freshLock, lockIn, locks, machines, clients, queueCapacity, wireCapacity}
 use Rattle.model.specs.WellFormed.{shaped, isBlankWaiter, distinct, queueFormed, agentFormed, isBlankAgent, slotBy, slotFormed, isFree, toDecider, isBlankPacket, messageFormed, addressInRange, packetFormed, wireFormed, ownerInRange, lockFormed, wellFormed}
 use Rattle.model.specs.Calls.{packetAt}
 use Rattle.laws.specs.Tests.{and-left, and-right}
@@ -54,19 +54,19 @@ waiter-blank w e = rw (eqb-true (w .client .0) 0 (and-left (eqb (w .client .0) 0
 
 pub queue-canonical : (q : Queue) → queueFormed q ≡ true → CanonicalQueue q
 unfolding queueFormed
-queue-canonical q e = shaped-canonical 16 isBlankWaiter blankWaiter waiter-blank (q .slots) (q .len) (and-left (shaped 16 isBlankWaiter (q .slots) (q .len)) _ e)
+queue-canonical q e = shaped-canonical queueCapacity isBlankWaiter blankWaiter waiter-blank (q .slots) (q .len) (and-left (shaped queueCapacity isBlankWaiter (q .slots) (q .len)) _ e)
 
 pub agent-blank : (a : Agent) → isBlankAgent a ≡ true → a ≡ newAgent Exclusive
 unfolding isBlankAgent queueOf
 agent-blank a e =
     let e1 = and-right (not (isShared (a .mode))) _ e in
-    let e2 = and-right (eqb (length (a .holders)) 16) _ e1 in
+    let e2 = and-right (eqb (length (a .holders)) clients) _ e1 in
     let e3 = and-right (all not (a .holders)) _ e2 in
-    let e4 = and-right (shaped 16 isBlankWaiter (a .queue .slots) 0) _ e3 in
+    let e4 = and-right (shaped queueCapacity isBlankWaiter (a .queue .slots) 0) _ e3 in
     let m : a .mode ≡ Exclusive = exclusive-of (a .mode) (and-left (not (isShared (a .mode))) _ e) in
-    let n : length (a .holders) ≡ 16 = eqb-true (length (a .holders)) 16 (and-left (eqb (length (a .holders)) 16) _ e1) in
+    let n : length (a .holders) ≡ clients = eqb-true (length (a .holders)) clients (and-left (eqb (length (a .holders)) clients) _ e1) in
     let h : a .holders ≡ noHolders = rw n at (all-same not false not-true (a .holders) (and-left (all not (a .holders)) _ e2)) in
-    let q : Canonical 16 blankWaiter (a .queue .slots) 0 = shaped-canonical 16 isBlankWaiter blankWaiter waiter-blank (a .queue .slots) 0 (and-left (shaped 16 isBlankWaiter (a .queue .slots) 0) _ e3) in
+    let q : Canonical queueCapacity blankWaiter (a .queue .slots) 0 = shaped-canonical queueCapacity isBlankWaiter blankWaiter waiter-blank (a .queue .slots) 0 (and-left (shaped queueCapacity isBlankWaiter (a .queue .slots) 0) _ e3) in
     let l : a .queue .len ≡ 0 = eqb-true (a .queue .len) 0 (and-left (eqb (a .queue .len) 0) _ e4) in
     let i : a .incarnation ≡ 0 = eqb-true (a .incarnation) 0 (and-right (eqb (a .queue .len) 0) _ e4) in
     rw (m, h, q .shape, l, i)
@@ -86,16 +86,16 @@ packet-blank p e =
 
 pub wire-canonical : (w : Wire) → wireFormed w ≡ true → CanonicalWire w
 unfolding wireFormed
-wire-canonical w e = shaped-canonical 33 isBlankPacket blankPacket packet-blank (w .slots) (w .len) (and-left (shaped 33 isBlankPacket (w .slots) (w .len)) _ e)
+wire-canonical w e = shaped-canonical wireCapacity isBlankPacket blankPacket packet-blank (w .slots) (w .len) (and-left (shaped wireCapacity isBlankPacket (w .slots) (w .len)) _ e)
 
 -- ---- an agent of a well-formed slot, a blank one too
 pub record Fit (a : Agent) : Type 0 where
-  pub sixteen : length (a .holders) ≡ 16
+  pub all-clients : length (a .holders) ≡ clients
   pub queue : queueFormed (a .queue) ≡ true
 
 pub new-fit : (m : Mode) → Fit (newAgent m)
 unfolding queueFormed queueOf shaped padded isBlankWaiter distinct
-new-fit m = record { sixteen = refl; queue = refl }
+new-fit m = record { all-clients = refl; queue = refl }
 
 pub fit : (x : AgentSlot) → slotFormed x ≡ true → Fit (x .agent)
 unfolding slotFormed agentFormed
@@ -104,8 +104,8 @@ fit x e = go (x .present) e
     go : (b : Bool) → slotBy b (x .agent) ≡ true → Fit (x .agent)
     go true e =
         record {
-          sixteen = eqb-true _ 16 (and-left (eqb (length (x .agent .holders)) 16) _ e);
-          queue = and-right (eqb (length (x .agent .holders)) 16) _ e;
+          all-clients = eqb-true _ clients (and-left (eqb (length (x .agent .holders)) clients) _ e);
+          queue = and-right (eqb (length (x .agent .holders)) clients) _ e;
         }
     go false e = rw (agent-blank (x .agent) e) (new-fit Exclusive)
 
@@ -115,6 +115,14 @@ slot-canonical x e = queue-canonical (x .agent .queue) (fit x e .queue)
 pub no-agent-formed : slotFormed noAgent ≡ true
 unfolding slotFormed noAgent isBlankAgent queueOf shaped padded isBlankWaiter
 no-agent-formed = refl
+
+-- The packet p, where four of its parts are looked at: its message, its address, whether it is rejected, whether it carries an agent. With p's
+-- own four it is p.
+abbrev pub slotIn : Bool → Packet → AgentSlot
+slotIn x p = record { present = x; agent = p .carried .agent }
+
+abbrev pub inParts : Message → Address → Bool → Bool → Packet → Packet
+inParts m t b x p = record { message = m; to = t; rejected = b; carried = slotIn x p }
 
 -- ---- the parts of a well-formed packet
 pub record Whole (p : Packet) : Type 0 where
@@ -132,9 +140,9 @@ whole-packet p e =
 -- ---- the parts of a well-formed lock
 pub record Parts (s : LockState) : Type 0 where
   pub owner : ownerInRange (s .decider .owner) ≡ true
-  pub four : length (s .agents) ≡ 4
+  pub all-machines : length (s .agents) ≡ machines
   pub agents : all slotFormed (s .agents) ≡ true
-  pub sixteen : length (s .clients) ≡ 16
+  pub all-clients : length (s .clients) ≡ clients
   pub wire : wireFormed (s .wire) ≡ true
   pub packets : all packetFormed (packets (s .wire)) ≡ true
 
@@ -142,16 +150,16 @@ pub parts : (s : LockState) → lockFormed s ≡ true → Parts s
 unfolding lockFormed wireFormed packets
 parts s e =
     let e1 = and-right (ownerInRange (s .decider .owner)) _ e in
-    let e2 = and-right (eqb (length (s .agents)) 4) _ e1 in
+    let e2 = and-right (eqb (length (s .agents)) machines) _ e1 in
     let e3 = and-right (all slotFormed (s .agents)) _ e2 in
-    let w : wireFormed (s .wire) ≡ true = and-right (eqb (length (s .clients)) 16) _ e3 in
+    let w : wireFormed (s .wire) ≡ true = and-right (eqb (length (s .clients)) clients) _ e3 in
     record {
       owner = and-left (ownerInRange (s .decider .owner)) _ e;
-      four = eqb-true (length (s .agents)) 4 (and-left (eqb (length (s .agents)) 4) _ e1);
+      all-machines = eqb-true (length (s .agents)) machines (and-left (eqb (length (s .agents)) machines) _ e1);
       agents = and-left (all slotFormed (s .agents)) _ e2;
-      sixteen = eqb-true (length (s .clients)) 16 (and-left (eqb (length (s .clients)) 16) _ e3);
+      all-clients = eqb-true (length (s .clients)) clients (and-left (eqb (length (s .clients)) clients) _ e3);
       wire = w;
-      packets = and-right (shaped 33 isBlankPacket (s .wire .slots) (s .wire .len)) _ w;
+      packets = and-right (shaped wireCapacity isBlankPacket (s .wire .slots) (s .wire .len)) _ w;
     }
 
 pub agent-on : {s : LockState} → Parts s → (k : MachineId) → slotFormed (agentOn s k) ≡ true
@@ -170,10 +178,10 @@ ready s e =
     }
 
 -- ---- the locks of a well-formed cluster
-pub eight : (x : Cluster) → wellFormed x ≡ true → length (x .locks) ≡ 8
+pub all-locks : (x : Cluster) → wellFormed x ≡ true → length (x .locks) ≡ locks
 unfolding wellFormed
-eight x w = eqb-true _ 8 (and-left (eqb (length (x .locks)) 8) _ w)
+all-locks x w = eqb-true _ locks (and-left (eqb (length (x .locks)) locks) _ w)
 
-pub lock-formed : (x : Cluster) (l : LockId) → wellFormed x ≡ true → l .0 < 8 → lockFormed (lockIn x l) ≡ true
+pub lock-formed : (x : Cluster) (l : LockId) → wellFormed x ≡ true → l .0 < locks → lockFormed (lockIn x l) ≡ true
 unfolding wellFormed
-lock-formed x l w h = all-at lockFormed (x .locks) (l .0) freshLock (and-right (eqb (length (x .locks)) 8) _ w) (omega (arith, eight x w))
+lock-formed x l w h = all-at lockFormed (x .locks) (l .0) freshLock (and-right (eqb (length (x .locks)) locks) _ w) (omega (arith, all-locks x w))

@@ -8,18 +8,19 @@ use lib.ListN.{length, set, length-append, length-set}
 use lib.Dec.{leb}
 use borrow.Author.Tests.{eq-eqb, lt-ltb, leb-true, leb-false}
 use Rattle.model.specs.Lists.{pick, any, all, removed}
-use Rattle.laws.specs.Names.{MachineId, ClientId, Mode, Exclusive, Shared, Owner, Unowned, Owned, Waiter, Agent, AgentSlot, Address, ToDecider, ToMachine, Message, Free, Acquire, Grant, Release, Packet, Idle, Waiting, Site, LockState, WireFull}
-use Rattle.model.specs.States.{queueOf, waiters, packets, seated, newAgent, machineOf, isShared}
+use Rattle.laws.specs.Names.{MachineId, ClientId, Mode, Shared, Owner, Unowned, Owned, Waiter, Agent, AgentSlot, Address, ToDecider, ToMachine, Message, Free, Acquire, Grant, Release, Packet, Idle, Waiting, Site, LockState, WireFull}
+use Rattle.model.specs.States.{resent, queueOf, waiters, packets, seated, newAgent, machineOf, isShared, machines, clients, queueCapacity, wireCapacity}
 use Rattle.model.specs.WellFormed.{clientInRange, ownerInRange, addressInRange, isClient, waiterInRange, slotFormed, messageFormed, packetFormed, lockFormed}
-use Rattle.model.specs.Changes.{siteOf, withDecider, withSlot, withStatus, Verdict, cannot-place, does, apply, accepted, refused, finish}
+use Rattle.model.specs.Changes.{siteOf, withSlot, withStatus, Verdict, cannot-place, does, apply, accepted, refused, finish}
 use Rattle.model.specs.Asking.{changed, queuing, noRoom, withRoom, mayJoin, asks, acquires, anyHolder, without, handOver, staysIf, leaves, lists, releases}
-use Rattle.model.specs.AtDecider.{toOwner, granting, mayShare, decidesAcquire, current, decidesFree, decidesGrant, decides, atDecider}
-use Rattle.model.specs.AtMachine.{bounces, ofMode, admitted, staying, joined, grantOf, requeued, installs, granted, marked, unmarked, acquired, released, returned, arrives, atMachine}
+use Rattle.model.specs.AtDecider.{toOwner, grantsWith, mayShare, decidesAcquire, current, decidesFree, decidesGrant, decides, atDecider}
+use Rattle.model.specs.AtMachine.{sentBack, admitted, joined, grantOf, requeued, installs, granted, marked, unmarked, acquired, released, returned, arrives, atMachine}
 use Rattle.model.specs.Calls.{delivers, packetAt, acquireStep, releaseStep, takes, deliverStep}
-use Rattle.laws.specs.Tests.{and-left, and-right, both, or-left, or-right, bool-cases}
-use Rattle.laws.specs.Lists.{all-append, all-removed, all-set, Sublist, empty, kept, left-out, whole, nothing, sublist-all}
-use Rattle.laws.specs.Formed.{Fit, fit, new-fit, no-agent-formed, Whole, Parts, parts, agent-on, packet-at}
-use Rattle.laws.specs.Making.{machine-in-range, Line, line, line-sublist, line-end, line-front, queue-formed, fit-holder, seated-formed, packet-formed, plain, wire-formed}
+use Rattle.laws.specs.Tests.{and-left, and-right, both, or-left, or-right}
+use Rattle.laws.specs.Lists.{all-append, all-removed, all-set, left-out, whole, sublist-all}
+use Rattle.laws.specs.Formed.{Fit, fit, new-fit, no-agent-formed, Whole, Parts, parts, agent-on, packet-at, inParts}
+use Rattle.laws.specs.Making.{machine-in-range, Line, line, line-sublist, line-end, line-front, queue-formed, fit-holder, seated-formed, packet-formed, plain-whole, carrying-whole, resent-whole, wire-formed}
+use Rattle.laws.specs.Parting.{parting, admitted-sublist, staying-sublist, length-joined}
 
 -- every packet sent is well formed
 pub data Sends : List Packet → Type 0 where
@@ -36,22 +37,22 @@ pub data Sound : Verdict → Type 0 where
   keeps : {v : Site} {qs : List Packet} → ownerInRange (v .decider .owner) ≡ true → slotFormed (v .slot) ≡ true → Sends qs → Sound (does v qs)
 
 module _ (s : LockState) (k : MachineId) (c : ClientId) where
-  pub kept-by : (v : Site) (qs rest : List Packet) → Parts s → all packetFormed rest ≡ true → Sound (does v qs) → length rest + length qs ≤ 33
+  pub kept-by : (v : Site) (qs rest : List Packet) → Parts s → all packetFormed rest ≡ true → Sound (does v qs) → length rest + length qs ≤ wireCapacity
       → lockFormed (apply k c v qs rest s) ≡ true
   unfolding lockFormed
   kept-by v qs rest f g (keeps o x e) h =
-      let four : length (set (s .agents) (k .0) (v .slot)) ≡ 4 = length-set (s .agents) _ _ ∙ f .four in
-      let sixteen : length (set (s .clients) (c .0) (record { status = v .status })) ≡ 16 = length-set (s .clients) _ _ ∙ f .sixteen in
-      rw (o, eq-eqb _ 4 four, all-set slotFormed (s .agents) (k .0) (v .slot) (f .agents) x, eq-eqb _ 16 sixteen)
+      let all-machines : length (set (s .agents) (k .0) (v .slot)) ≡ machines = length-set (s .agents) _ _ ∙ f .all-machines in
+      let all-clients : length (set (s .clients) (c .0) (record { status = v .status })) ≡ clients = length-set (s .clients) _ _ ∙ f .all-clients in
+      rw (o, eq-eqb _ machines all-machines, all-set slotFormed (s .agents) (k .0) (v .slot) (f .agents) x, eq-eqb _ clients all-clients)
       (wire-formed (rest ++ qs) (all-append packetFormed rest qs g (sends-formed e)) (omega (arith, length-append rest qs)))
 
   pub finish-formed : (w : Verdict) (rest : List Packet) → lockFormed s ≡ true → all packetFormed rest ≡ true → Sound w → lockFormed (finish k c w rest s .state) ≡ true
   unfolding finish
   finish-formed cannot-place rest f g refuses = f
-  finish-formed (does v qs) rest f g q = go (leb (length rest + length qs) 33) refl
+  finish-formed (does v qs) rest f g q = go (leb (length rest + length qs) wireCapacity) refl
     where
-      go : (b : Bool) → leb (length rest + length qs) 33 ≡ b → lockFormed (pick b (accepted (apply k c v qs rest s)) (refused WireFull s) .state) ≡ true
-      go true e = kept-by v qs rest (parts s f) g q (leb-true (length rest + length qs) 33 e)
+      go : (b : Bool) → leb (length rest + length qs) wireCapacity ≡ b → lockFormed (pick b (accepted (apply k c v qs rest s)) (refused WireFull s) .state) ≡ true
+      go true e = kept-by v qs rest (parts s f) g q (leb-true (length rest + length qs) wireCapacity e)
       go false e = f
 
 -- a rule that chooses by a test
@@ -59,51 +60,22 @@ choice : (b : Bool) {v w : Verdict} → (b ≡ true → Sound v) → (b ≡ fals
 choice true f g = f refl
 choice false f g = g refl
 
--- ---- who stays in a queue and who leaves it
-of-mode : (b : Bool) (ws : List Waiter) → Sublist (ofMode b ws) ws
-unfolding ofMode
-of-mode b [] = empty
-of-mode true (w ∷ ws) = bool-cases (isShared (w .mode)) (λ e. rw e (kept (of-mode true ws))) (λ e. rw e (left-out (of-mode true ws)))
-of-mode false (w ∷ ws) = bool-cases (isShared (w .mode)) (λ e. rw e (left-out (of-mode false ws))) (λ e. rw e (kept (of-mode false ws)))
-
-stay : (m : Mode) (ws : List Waiter) → Sublist (staying m ws) ws
-unfolding staying
-stay Exclusive ws = whole ws
-stay Shared ws = of-mode false ws
-
-leave : (m : Mode) (ws : List Waiter) → Sublist (admitted m ws) ws
-unfolding admitted
-leave Exclusive ws = nothing ws
-leave Shared ws = of-mode true ws
-
 grants-sent : (ws : List Waiter) → all waiterInRange ws ≡ true → Sends (map grantOf ws)
 unfolding messageFormed
 grants-sent [] e = none
 grants-sent (w ∷ ws) e =
-    more (plain (Grant (w .client) Shared) ToDecider (rw (and-left (waiterInRange w) _ e)) refl)
+    more (plain-whole (Grant (w .client) Shared) ToDecider (rw (and-left (waiterInRange w) _ e)) refl)
     (grants-sent ws (and-right (waiterInRange w) _ e))
 
-length-joined : (hs : List Bool) (ws : List Waiter) → length (joined hs ws) ≡ length hs
-unfolding joined
-length-joined hs [] = refl
-length-joined hs (w ∷ ws) = length-joined (set hs (w .client .0) true) ws ∙ length-set hs (w .client .0) true
-
-hand-over : (a : Agent) (hs : List Bool) (ws : List Waiter) → length hs ≡ 16 → Line ws → Whole (handOver a hs ws)
+hand-over : (a : Agent) (hs : List Bool) (ws : List Waiter) → length hs ≡ clients → Line ws → Whole (handOver a hs ws)
 unfolding handOver messageFormed
-hand-over a hs [] n l = record { message = refl; address = refl; carried = seated-formed (record { sixteen = n; queue = queue-formed l }) }
+hand-over a hs [] n l = carrying-whole refl refl (record { all-clients = n; queue = queue-formed l })
 hand-over a hs (w ∷ ws) n l =
-    record {
-      message = rw (and-left (waiterInRange w) _ (l .ranged));
-      address = refl;
-      carried = seated-formed (record { sixteen = n; queue = queue-formed (line-sublist (left-out (whole ws)) l) });
-    }
+    carrying-whole (rw (and-left (waiterInRange w) _ (l .ranged))) refl (record { all-clients = n; queue = queue-formed (line-sublist (left-out (whole ws)) l) })
 
 -- the packet may go to any address
 abbrev Anywhere : Packet → Type 0
-Anywhere p = (t : Address) → addressInRange t ≡ true → Whole (record { message = p .message; to = t; rejected = p .rejected; carried = p .carried })
-
-abbrev inParts : Message → Address → Bool → Bool → Agent → Packet
-inParts m t r b a = record { message = m; to = t; rejected = r; carried = record { present = b; agent = a } }
+Anywhere p = (t : Address) → addressInRange t ≡ true → Whole (resent p t (p .rejected))
 
 free-carries : (b r : Bool) (t : Address) → messageFormed Free b r t ≡ true → b ≡ true
 unfolding messageFormed
@@ -125,12 +97,12 @@ module _ (v : Site) (f : Set v) where
 
   module _ (a : Agent) (q : Fit a) (c : ClientId) (m : Mode) (h : clientInRange c ≡ true) where
     -- the queue becomes ws, where there is room for the client
-    sound-queue : (ws : List Waiter) → (any (isClient c) (waiters (a .queue)) ≡ false → length (waiters (a .queue)) < 16 → Line ws)
+    sound-queue : (ws : List Waiter) → (any (isClient c) (waiters (a .queue)) ≡ false → length (waiters (a .queue)) < queueCapacity → Line ws)
         → Sound (withRoom a c (does (withSlot v (seated (changed a (a .holders) (queueOf ws) (a .incarnation)))) []))
     sound-queue ws g =
         let old = any (isClient c) (waiters (a .queue)) in
         choice (noRoom a c) (λ e. refuses)
-        (λ e. keeps (f .owner) (seated-formed (record { sixteen = q .sixteen; queue = queue-formed (g (or-left old _ e) (leb-false 16 _ (or-right old _ e))) })) none)
+        (λ e. keeps (f .owner) (seated-formed (record { all-clients = q .all-clients; queue = queue-formed (g (or-left old _ e) (leb-false queueCapacity _ (or-right old _ e))) })) none)
 
     sound-queuing : Sound (withRoom a c (does (withSlot v (seated (queuing a c m))) []))
     sound-queuing = sound-queue _ (line-end (line (a .queue) (q .queue)) (record { client = c; mode = m }) h)
@@ -143,8 +115,8 @@ module _ (v : Site) (f : Set v) where
     sound-installs =
         let l = line (a .queue) (q .queue) in
         let ws = waiters (a .queue) in
-        let n : length (joined (set (a .holders) (c .0) true) (admitted m ws)) ≡ 16 = length-joined (set (a .holders) (c .0) true) (admitted m ws) ∙ (length-set (a .holders) (c .0) true ∙ q .sixteen) in
-        keeps (f .owner) (seated-formed (record { sixteen = n; queue = queue-formed (line-sublist (stay m ws) l) })) (grants-sent (admitted m ws) (sublist-all waiterInRange (leave m ws) (l .ranged)))
+        let n : length (joined (set (a .holders) (c .0) true) (admitted m ws)) ≡ clients = length-joined (set (a .holders) (c .0) true) (admitted m ws) ∙ (length-set (a .holders) (c .0) true ∙ q .all-clients) in
+        keeps (f .owner) (seated-formed (record { all-clients = n; queue = queue-formed (line-sublist (staying-sublist (parting m ws)) l) })) (grants-sent (admitted m ws) (sublist-all waiterInRange (admitted-sublist (parting m ws)) (l .ranged)))
 
   sound-leaves : (a : Agent) (c : ClientId) → Fit a → Sound (leaves v a c)
   unfolding staysIf
@@ -152,7 +124,7 @@ module _ (v : Site) (f : Set v) where
     where
       go : (b : Bool) → Sound (staysIf b v a (without a c))
       go true = keeps (f .owner) (seated-formed (fit-holder q (c .0) false (a .incarnation))) none
-      go false = keeps (f .owner) no-agent-formed (more (hand-over a (without a c) (waiters (a .queue)) (length-set (a .holders) (c .0) false ∙ q .sixteen) (line (a .queue) (q .queue))) none)
+      go false = keeps (f .owner) no-agent-formed (more (hand-over a (without a c) (waiters (a .queue)) (length-set (a .holders) (c .0) false ∙ q .all-clients) (line (a .queue) (q .queue))) none)
 
   -- at the decider: sent on, or granted with an agent
   sound-to-owner : (o : Owner) (p : Packet) → Anywhere p → ownerInRange o ≡ true → Sound (toOwner o v p)
@@ -160,29 +132,25 @@ module _ (v : Site) (f : Set v) where
   sound-to-owner Unowned p w h = refuses
   sound-to-owner (Owned n k) p w h = sound-sends (more (w (ToMachine k) h) none)
 
-  sound-granting : (c : ClientId) (m : Mode) (a : Agent) → clientInRange c ≡ true → Fit a
-      → Sound (does (withDecider v (record { owner = Owned m (machineOf c); incarnation = 0 })) (granting c m a ∷ []))
+  sound-grants : (c : ClientId) (m : Mode) (a : Agent) → clientInRange c ≡ true → Fit a → Sound (grantsWith v c m a)
   unfolding messageFormed
-  sound-granting c m a h q =
+  sound-grants c m a h q =
       let k = machine-in-range c h in
-      keeps k (f .slot) (more (record { message = both (clientInRange c) true h refl; address = k; carried = seated-formed q }) none)
+      keeps k (f .slot) (more (carrying-whole (both (clientInRange c) true h refl) k q) none)
 
   sound-decides-acquire : (o : Owner) (p : Packet) (c : ClientId) (m : Mode) (g : Bool) → clientInRange c ≡ true → Anywhere p → ownerInRange o ≡ true
       → Sound (decidesAcquire o v p c m g)
   unfolding decidesAcquire messageFormed
-  sound-decides-acquire Unowned p c m false h w i = sound-granting c m (newAgent m) h (new-fit m)
+  sound-decides-acquire Unowned p c m false h w i = sound-grants c m (newAgent m) h (new-fit m)
   sound-decides-acquire (Owned n k) p c m false h w i =
-      choice (mayShare (Owned n k) m)
+      choice (mayShare v m)
       (λ e. let g = both (clientInRange c) true h refl in keeps (f .owner) (f .slot)
-      (more (plain (Grant c Shared) (ToMachine (machineOf c)) g (machine-in-range c h)) (more (plain (Acquire c Shared true) (ToMachine k) g i) none)))
+      (more (plain-whole (Grant c Shared) (ToMachine (machineOf c)) g (machine-in-range c h)) (more (plain-whole (Acquire c Shared true) (ToMachine k) g i) none)))
       (λ e. sound-to-owner (Owned n k) p w i)
   sound-decides-acquire Unowned p c m true h w i = sound-to-owner Unowned p w i
   sound-decides-acquire (Owned n k) p c m true h w i = sound-to-owner (Owned n k) p w i
 
-  -- at a machine
-  sound-bounces : (p : Packet) → Anywhere p → Sound (bounces v p)
-  sound-bounces p w = sound-sends (more (w ToDecider refl) none)
-
+  -- at a machine: sent back, or taken
   sound-granted : (here b r : Bool) (a : Agent) (c : ClientId) (m : Mode) → Fit a → clientInRange c ≡ true → Sound (granted here b r v a c m)
   unfolding granted
   sound-granted here false r a c m q h = keeps (f .owner) (f .slot) none
@@ -190,96 +158,97 @@ module _ (v : Site) (f : Set v) where
   sound-granted false true false a c m q h = sound-installs a q c m h
   sound-granted false true true a c m q h = sound-requeued a q c m h
 
-  sound-acquired : (here : Bool) (a : Agent) (p : Packet) (c : ClientId) (m : Mode) (g : Bool) → Fit a → clientInRange c ≡ true → Anywhere p
+  sound-acquired : (here : Bool) (a : Agent) (p : Packet) (c : ClientId) (m : Mode) (g : Bool) → Fit a → clientInRange c ≡ true → Whole (sentBack p)
       → Sound (acquired here v a p c m g)
   unfolding acquired marked unmarked messageFormed
-  sound-acquired false a p c m g q h w = sound-bounces p w
+  sound-acquired false a p c m g q h w = sound-sends (more w none)
   sound-acquired true a p c m true q h w = choice (isShared (a .mode)) (λ e. keeps (f .owner) (seated-formed (fit-holder q (c .0) true _)) none) (λ e. refuses)
   sound-acquired true a p c m false q h w =
-      choice (mayJoin a m)
-      (λ e. keeps (f .owner) (seated-formed (fit-holder q (c .0) true _)) (more (plain (Grant c m) ToDecider (rw h) refl) none))
+      choice (mayJoin v m)
+      (λ e. keeps (f .owner) (seated-formed (fit-holder q (c .0) true _)) (more (plain-whole (Grant c m) ToDecider (rw h) refl) none))
       (λ e. sound-queuing a q c m h)
 
-  sound-released : (p : Packet) (c : ClientId) → Anywhere p → Sound (released v p c)
+  sound-released : (p : Packet) (c : ClientId) → Whole (sentBack p) → Sound (released v p c)
   unfolding released
-  sound-released p c w = choice (lists (v .slot) c) (λ e. sound-leaves (v .slot .agent) c (fit _ (f .slot))) (λ e. sound-bounces p w)
+  sound-released p c w = choice (lists (v .slot) c) (λ e. sound-leaves (v .slot .agent) c (fit _ (f .slot))) (λ e. sound-sends (more w none))
 
   sound-returned : (here : Bool) (x : AgentSlot) → slotFormed x ≡ true → Sound (returned here v x)
   unfolding returned
   sound-returned true x h = refuses
   sound-returned false x h = keeps (f .owner) h none
 
-  -- by the message, of a packet in its parts
-  sound-decides-grant : (t : Address) (r b : Bool) (a : Agent) (c : ClientId) (m : Mode) (o : Owner) → slotFormed (record { present = b; agent = a }) ≡ true
-      → messageFormed (Grant c m) b r t ≡ true → ownerInRange o ≡ true → Sound (decidesGrant b o v (inParts (Grant c m) t r b a) c m)
-  unfolding decidesGrant messageFormed
-  sound-decides-grant t r false a c m o x e h =
-      sound-sends (more (record { message = e; address = machine-in-range c (and-left (clientInRange c) _ e); carried = x }) none)
-  sound-decides-grant t r true a c m Unowned x e h = refuses
-  sound-decides-grant t r true a c m (Owned n k) x e h =
-      let i = and-left (clientInRange c) _ e in
-      let q = fit _ x in
-      choice (current (v .decider) (inParts (Grant c m) t r true a)) (λ y. sound-granting c m _ i (record { sixteen = q .sixteen; queue = q .queue }))
-      (λ y. sound-sends (more (record { message = rw i; address = h; carried = x }) none))
+  -- by the message, of the packet p; the Bool: it carries an agent
+  module _ (p : Packet) where
+    abbrev came : Message → Bool → Packet
+    came m b = inParts m (p .to) (p .rejected) b p
 
-  sound-decides-free : (t : Address) (r b : Bool) (a : Agent) (o : Owner) → slotFormed (record { present = b; agent = a }) ≡ true → messageFormed Free b r t ≡ true
-      → ownerInRange o ≡ true → Sound (decidesFree o v (inParts Free t r b a))
-  unfolding decidesFree messageFormed
-  sound-decides-free t r b a Unowned x e h = refuses
-  sound-decides-free t r b a (Owned n k) x e h =
-      choice (current (v .decider) (inParts Free t r b a)) (λ y. keeps refl (f .slot) none) (λ y. sound-sends (more (record { message = rw (free-carries b r t e); address = h; carried = x }) none))
+    sound-decides-grant : (b : Bool) (c : ClientId) (m : Mode) (o : Owner) → Whole (came (Grant c m) b) → ownerInRange o ≡ true → Sound (decidesGrant b o v (came (Grant c m) b) c m)
+    unfolding decidesGrant messageFormed
+    sound-decides-grant false c m o w h = sound-sends (more (resent-whole w (w .message) (machine-in-range c (and-left (clientInRange c) _ (w .message)))) none)
+    sound-decides-grant true c m Unowned w h = refuses
+    sound-decides-grant true c m (Owned n k) w h =
+        let i = and-left (clientInRange c) _ (w .message) in
+        let q = fit _ (w .carried) in
+        choice (current (v .decider) (came (Grant c m) true)) (λ y. sound-grants c m _ i (record { all-clients = q .all-clients; queue = q .queue }))
+        (λ y. sound-sends (more (resent-whole w (rw i) h) none))
 
-  module _ (t : Address) (r b : Bool) (a : Agent) (x : slotFormed (record { present = b; agent = a }) ≡ true) where
-    sound-decides : (m : Message) (o : Owner) → messageFormed m b r t ≡ true → ownerInRange o ≡ true → Sound (decides m o v (inParts m t r b a))
+    sound-decides-free : (b : Bool) (o : Owner) → Whole (came Free b) → ownerInRange o ≡ true → Sound (decidesFree o v (came Free b))
+    unfolding decidesFree messageFormed
+    sound-decides-free b Unowned w h = refuses
+    sound-decides-free b (Owned n k) w h =
+        choice (current (v .decider) (came Free b)) (λ y. keeps refl (f .slot) none)
+        (λ y. sound-sends (more (resent-whole w (rw (free-carries b (p .rejected) (p .to) (w .message))) h) none))
+
+    sound-decides : (m : Message) (b : Bool) (o : Owner) → Whole (came m b) → ownerInRange o ≡ true → Sound (decides m o v (came m b))
     unfolding decides messageFormed
-    sound-decides (Acquire c m g) o e h = sound-decides-acquire o _ c m g (and-left (clientInRange c) _ e) (λ t i. record { message = e; address = i; carried = x }) h
-    sound-decides (Grant c m) o e h = sound-decides-grant t r b a c m o x e h
-    sound-decides (Release c) o e h = sound-to-owner o _ (λ t i. record { message = e; address = i; carried = x }) h
-    sound-decides Free o e h = sound-decides-free t r b a o x e h
+    sound-decides (Acquire c m g) b o w h = sound-decides-acquire o _ c m g (and-left (clientInRange c) _ (w .message)) (λ t i. resent-whole w (w .message) i) h
+    sound-decides (Grant c m) b o w h = sound-decides-grant b c m o w h
+    sound-decides (Release c) b o w h = sound-to-owner o _ (λ t i. resent-whole w (w .message) i) h
+    sound-decides Free b o w h = sound-decides-free b o w h
 
-    sound-arrives : (m : Message) → messageFormed m b r t ≡ true → Sound (arrives m v (inParts m t r b a))
+    sound-arrives : (m : Message) (b : Bool) → Whole (came m b) → Sound (arrives m v (came m b))
     unfolding arrives messageFormed
-    sound-arrives (Acquire c m g) e =
-        sound-acquired (v .slot .present) (v .slot .agent) _ c m g (fit _ (f .slot)) (and-left (clientInRange c) _ e) (λ t i. record { message = e; address = i; carried = x })
-    sound-arrives (Grant c m) e = sound-granted (v .slot .present) b r a c m (fit _ x) (and-left (clientInRange c) _ e)
-    sound-arrives (Release c) e = sound-released _ c (λ t i. record { message = e; address = i; carried = x })
-    sound-arrives Free e = sound-returned (v .slot .present) _ x
+    sound-arrives (Acquire c m g) b w =
+        sound-acquired (v .slot .present) (v .slot .agent) _ c m g (fit _ (f .slot)) (and-left (clientInRange c) _ (w .message)) (resent-whole w (w .message) refl)
+    sound-arrives (Grant c m) b w = sound-granted (v .slot .present) b (p .rejected) (p .carried .agent) c m (fit _ (w .carried)) (and-left (clientInRange c) _ (w .message))
+    sound-arrives (Release c) b w = sound-released _ c (resent-whole w (w .message) refl)
+    sound-arrives Free b w = sound-returned (v .slot .present) _ (w .carried)
 
-  sound-delivers : (p : Packet) → Whole p → Sound (delivers (p .to) v p)
-  unfolding delivers atDecider atMachine
-  sound-delivers p w = go (p .to)
-    where
-      go : (t : Address) → Sound (delivers t v p)
-      go ToDecider = sound-decides (p .to) (p .rejected) (p .carried .present) (p .carried .agent) (w .carried) (p .message) (v .decider .owner) (w .message) (f .owner)
-      go (ToMachine k) = sound-arrives (p .to) (p .rejected) (p .carried .present) (p .carried .agent) (w .carried) (p .message) (w .message)
+    sound-delivers : Whole p → Sound (delivers (p .to) v p)
+    unfolding delivers atDecider atMachine
+    sound-delivers w = go (p .to)
+      where
+        go : (t : Address) → Sound (delivers t v p)
+        go ToDecider = sound-decides (p .message) (p .carried .present) (v .decider .owner) w (f .owner)
+        go (ToMachine k) = sound-arrives (p .message) (p .carried .present) w
 
 -- asking and handing back
 sound-asks : (v : Site) (f : Set v) (c : ClientId) (m : Mode) (b : Bool) (a : Agent) → clientInRange c ≡ true → Fit a → Sound (asks v c m b a)
 unfolding asks messageFormed
 sound-asks v f c m true a h q =
-    choice (mayJoin a m) (λ e. keeps (f .owner) (seated-formed (fit-holder q (c .0) true (a .incarnation))) none)
+    choice (mayJoin v m) (λ e. keeps (f .owner) (seated-formed (fit-holder q (c .0) true (a .incarnation))) none)
     (λ e. sound-queuing (withStatus v (Waiting m)) (record { owner = f .owner; slot = f .slot }) a q c m h)
-sound-asks v f c m false a h q = keeps (f .owner) (f .slot) (more (plain (Acquire c m false) ToDecider (rw h) refl) none)
+sound-asks v f c m false a h q = keeps (f .owner) (f .slot) (more (plain-whole (Acquire c m false) ToDecider (rw h) refl) none)
 
 sound-releases : (v : Site) (f : Set v) (c : ClientId) → clientInRange c ≡ true → Sound (releases v c)
 unfolding releases messageFormed
 sound-releases v f c h =
     choice (lists (v .slot) c) (λ e. sound-leaves (withStatus v Idle) (record { owner = f .owner; slot = f .slot }) _ c (fit _ (f .slot)))
-    (λ e. keeps (f .owner) (f .slot) (more (plain (Release c) ToDecider (rw h) refl) none))
+    (λ e. keeps (f .owner) (f .slot) (more (plain-whole (Release c) ToDecider (rw h) refl) none))
 
 -- ---- the three steps
-pub acquire-formed : (s : LockState) (c : ClientId) (m : Mode) → c .0 < 16 → lockFormed s ≡ true → lockFormed (acquireStep s c m .state) ≡ true
+pub acquire-formed : (s : LockState) (c : ClientId) (m : Mode) → c .0 < clients → lockFormed s ≡ true → lockFormed (acquireStep s c m .state) ≡ true
 unfolding acquireStep acquires
 acquire-formed s c m h f =
     let p = parts s f in
     let v = site-set p (machineOf c) c in
-    finish-formed s _ _ _ (packets (s .wire)) f (p .packets) (sound-asks _ v c m _ _ (lt-ltb (c .0) 16 h) (fit _ (v .slot)))
+    finish-formed s _ _ _ (packets (s .wire)) f (p .packets) (sound-asks _ v c m _ _ (lt-ltb (c .0) clients h) (fit _ (v .slot)))
 
-pub release-formed : (s : LockState) (c : ClientId) → c .0 < 16 → lockFormed s ≡ true → lockFormed (releaseStep s c .state) ≡ true
+pub release-formed : (s : LockState) (c : ClientId) → c .0 < clients → lockFormed s ≡ true → lockFormed (releaseStep s c .state) ≡ true
 unfolding releaseStep
 release-formed s c h f =
     let p = parts s f in
-    finish-formed s _ _ _ (packets (s .wire)) f (p .packets) (sound-releases _ (site-set p (machineOf c) c) c (lt-ltb (c .0) 16 h))
+    finish-formed s _ _ _ (packets (s .wire)) f (p .packets) (sound-releases _ (site-set p (machineOf c) c) c (lt-ltb (c .0) clients h))
 
 pub deliver-formed : (s : LockState) (i : ℕ) → i < length (packets (s .wire)) → lockFormed s ≡ true → lockFormed (deliverStep s i .state) ≡ true
 unfolding deliverStep takes

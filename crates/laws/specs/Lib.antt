@@ -5,6 +5,7 @@ pub mod Lists
 pub mod Shapes
 pub mod Formed
 pub mod Making
+pub mod Parting
 pub mod Kept
 pub mod Opened
 pub mod Clusters

@@ -80,10 +80,6 @@ module _ {A : Type 0} where
   whole [] = empty
   whole (x ∷ xs) = kept (whole xs)
 
-  pub nothing : (xs : List A) → Sublist [] xs
-  nothing [] = empty
-  nothing (x ∷ xs) = left-out (nothing xs)
-
   pub sublist-length : {xs ys : List A} → Sublist xs ys → length xs ≤ length ys
   sublist-length empty = omega arith
   sublist-length (kept s) = omega (arith, sublist-length s)

@@ -10,7 +10,7 @@ use lib.Dec.{eqb, leb}
 use borrow.Author.Tests.{eqb-false, ltb-true, lt-ltb, le-leb, eq-eqb, ne-eqb, not-true}
 use Rattle.model.specs.Lists.{any, all, padded}
 use Rattle.laws.specs.Names.{ClientId, Address, Message, Waiter, Queue, Agent, Packet}
-use Rattle.model.specs.States.{blankWaiter, blankPacket, queueOf, waiters, wireOf, seated, noAgent, packet, machineOf}
+use Rattle.model.specs.States.{plain, blankWaiter, blankPacket, queueOf, waiters, wireOf, seated, noAgent, machineOf, machines, clients, queueCapacity, wireCapacity, carrying, resent}
 use Rattle.model.specs.WellFormed.{clientInRange, machineInRange, addressInRange, shaped, isBlankWaiter, isClient, distinct, waiterInRange, queueFormed, agentFormed, isBlankAgent, slotFormed, messageFormed, packetFormed, isBlankPacket, wireFormed}
 use Rattle.model.specs.Asking.{changed}
 use Rattle.laws.specs.Tests.{and-left, and-right, both, or-left, or-right}
@@ -18,7 +18,7 @@ use Rattle.laws.specs.Lists.{take-padded, all-append, all-replicate, non
 use Rattle.laws.specs.Formed.{queue-canonical, Fit, no-agent-formed, Whole}
 
 pub machine-in-range : (c : ClientId) → clientInRange c ≡ true → machineInRange (machineOf c) ≡ true
-machine-in-range c h = lt-ltb (machineOf c .0) 4 (omega (arith, ltb-true (c .0) 16 h))
+machine-in-range c h = lt-ltb (machineOf c .0) machines (omega (arith, ltb-true (c .0) clients h))
 
 pub shaped-padded : {A : Type 0} (n : ℕ) (p : A → Bool) (z : A) → p z ≡ true → (xs : List A) → length xs ≤ n → shaped n p (padded n z xs) (length xs) ≡ true
 unfolding shaped padded
@@ -56,7 +56,7 @@ distinct-sublist (left-out {x = w} {ys = ws} s) d = distinct-sublist s (rest-dis
 
 -- ---- what a queue may hold
 pub record Line (ws : List Waiter) : Type 0 where
-  pub short : length ws ≤ 16
+  pub short : length ws ≤ queueCapacity
   pub ranged : all waiterInRange ws ≡ true
   pub once : distinct ws ≡ true
 
@@ -64,7 +64,7 @@ pub line : (q : Queue) → queueFormed q ≡ true → Line (waiters q)
 unfolding queueFormed waiters
 line q e =
     let c = queue-canonical q e in
-    let e1 = and-right (shaped 16 isBlankWaiter (q .slots) (q .len)) _ e in
+    let e1 = and-right (shaped queueCapacity isBlankWaiter (q .slots) (q .len)) _ e in
     record {
       short = omega (arith, c .size, c .short);
       ranged = and-left (all waiterInRange (take (q .len) (q .slots))) _ e1;
@@ -74,15 +74,15 @@ line q e =
 pub queue-formed : {ws : List Waiter} → Line ws → queueFormed (queueOf ws) ≡ true
 unfolding queueFormed queueOf isBlankWaiter
 queue-formed {ws} l =
-    both (shaped 16 isBlankWaiter (padded 16 blankWaiter ws) (length ws)) _ (shaped-padded 16 isBlankWaiter blankWaiter refl ws (l .short))
-    (rw (take-padded 16 blankWaiter ws) (both (all waiterInRange ws) _ (l .ranged) (l .once)))
+    both (shaped queueCapacity isBlankWaiter (padded queueCapacity blankWaiter ws) (length ws)) _ (shaped-padded queueCapacity isBlankWaiter blankWaiter refl ws (l .short))
+    (rw (take-padded queueCapacity blankWaiter ws) (both (all waiterInRange ws) _ (l .ranged) (l .once)))
 
 pub line-sublist : {vs ws : List Waiter} → Sublist vs ws → Line ws → Line vs
 line-sublist s l =
     record { short = omega (arith, sublist-length s); ranged = sublist-all waiterInRange s (l .ranged); once = distinct-sublist s (l .once) }
 
 -- one more waiter, at the end or in front
-module _ {ws : List Waiter} (l : Line ws) (w : Waiter) (h : waiterInRange w ≡ true) (new : any (isClient (w .client)) ws ≡ false) (room : length ws < 16) where
+module _ {ws : List Waiter} (l : Line ws) (w : Waiter) (h : waiterInRange w ≡ true) (new : any (isClient (w .client)) ws ≡ false) (room : length ws < queueCapacity) where
   pub line-end : Line (ws ++ w ∷ [])
   line-end =
       record {
@@ -97,28 +97,34 @@ module _ {ws : List Waiter} (l : Line ws) (w : Waiter) (h : waiterInRange w ≡ 
 -- ---- an agent
 pub seated-formed : {a : Agent} → Fit a → slotFormed (seated a) ≡ true
 unfolding slotFormed agentFormed
-seated-formed {a} f = both (eqb (length (a .holders)) 16) _ (eq-eqb _ 16 (f .sixteen)) (f .queue)
+seated-formed {a} f = both (eqb (length (a .holders)) clients) _ (eq-eqb _ clients (f .all-clients)) (f .queue)
 
 -- one holder more or less
 pub fit-holder : {a : Agent} → Fit a → (i : ℕ) (b : Bool) (n : ℕ) → Fit (changed a (set (a .holders) i b) (a .queue) n)
-fit-holder {a} f i b n = record { sixteen = omega (arith, f .sixteen, length-set (a .holders) i b); queue = f .queue }
+fit-holder {a} f i b n = record { all-clients = omega (arith, f .all-clients, length-set (a .holders) i b); queue = f .queue }
 
 -- ---- a packet
 pub packet-formed : {p : Packet} → Whole p → packetFormed p ≡ true
 unfolding packetFormed
 packet-formed {p} w = rw (w .message, w .address, w .carried)
 
--- with no agent, not rejected
-pub plain : (m : Message) (t : Address) → messageFormed m false false t ≡ true → addressInRange t ≡ true → Whole (packet m t)
+-- the three ways in which a packet is made
+pub plain-whole : (m : Message) (t : Address) → messageFormed m false false t ≡ true → addressInRange t ≡ true → Whole (plain m t)
 unfolding noAgent
-plain m t e h = record { message = e; address = h; carried = no-agent-formed }
+plain-whole m t e h = record { message = e; address = h; carried = no-agent-formed }
+
+pub carrying-whole : {m : Message} {t : Address} {a : Agent} → messageFormed m true false t ≡ true → addressInRange t ≡ true → Fit a → Whole (carrying m t a)
+carrying-whole e h q = record { message = e; address = h; carried = seated-formed q }
+
+pub resent-whole : {p : Packet} {t : Address} {b : Bool} → Whole p → messageFormed (p .message) (p .carried .present) b t ≡ true → addressInRange t ≡ true → Whole (resent p t b)
+resent-whole w e h = record { message = e; address = h; carried = w .carried }
 
 blank-packet : isBlankPacket blankPacket ≡ true
 unfolding isBlankPacket blankPacket noAgent isBlankAgent queueOf shaped padded isBlankWaiter
 blank-packet = refl
 
-pub wire-formed : (ps : List Packet) → all packetFormed ps ≡ true → length ps ≤ 33 → wireFormed (wireOf ps) ≡ true
+pub wire-formed : (ps : List Packet) → all packetFormed ps ≡ true → length ps ≤ wireCapacity → wireFormed (wireOf ps) ≡ true
 unfolding wireFormed wireOf
 wire-formed ps e h =
-    both (shaped 33 isBlankPacket (padded 33 blankPacket ps) (length ps)) _ (shaped-padded 33 isBlankPacket blankPacket blank-packet ps h)
-    (rw (take-padded 33 blankPacket ps) e)
+    both (shaped wireCapacity isBlankPacket (padded wireCapacity blankPacket ps) (length ps)) _ (shaped-padded wireCapacity isBlankPacket blankPacket blank-packet ps h)
+    (rw (take-padded wireCapacity blankPacket ps) e)

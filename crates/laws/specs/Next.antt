@@ -8,7 +8,7 @@ use lib.ListN.{length, getD}
 use borrow.Author.Tests.{lt-leb}
 use Rattle.model.specs.Lists.{pick}
 use Rattle.laws.specs.Names.{LockId, MachineId, TaskId, Mode, Packet, Status, Idle, Waiting, Holding, ClientState, LockState, Cluster, Call, ReleaseCall, DeliverCall}
-use Rattle.model.specs.States.{clientOf, statusOf, idle, packets, lockIn}
+use Rattle.model.specs.States.{clientOf, statusOf, idle, packets, lockIn, locks, machines, tasks, clients}
 use Rattle.model.specs.WellFormed.{wellFormed}
 use Rattle.model.specs.Refusals.{first}
 use Rattle.model.specs.Calls.{isHolding, unless, release, deliver, perform}
@@ -19,7 +19,7 @@ use Rattle.laws.specs.Opened.{lockOf, outcomeOf, Allowed, may-release, m
 -- what the drain does next to a lock's state
 pub data NextIs (l : LockId) (s : LockState) : Call → Type 0 where
   delivers-first : 0 < length (packets (s .wire)) → NextIs l s (DeliverCall l 0)
-  releases-holder : (k : MachineId) (t : TaskId) (m : Mode) → clientOf k t .0 < length (s .clients) → t .0 < 4 → packets (s .wire) ≡ []
+  releases-holder : (k : MachineId) (t : TaskId) (m : Mode) → clientOf k t .0 < length (s .clients) → t .0 < tasks → packets (s .wire) ≡ []
       → statusOf s (clientOf k t) ≡ Holding m → NextIs l s (ReleaseCall l k t)
 
 holds : (st : Status) → isHolding st ≡ true → (m : Mode) × (st ≡ Holding m)
@@ -33,7 +33,7 @@ pub record Found (n : ℕ) (cs : List ClientState) (l : LockId) (a : Call) : Typ
   pub inside : at < length cs
   pub mode : Mode
   pub holding : getD cs at idle .status ≡ Holding mode
-  pub call : a ≡ ReleaseCall l (record { 0 = (n + at) / 4 }) (record { 0 = (n + at) % 4 })
+  pub call : a ≡ ReleaseCall l (record { 0 = (n + at) / tasks }) (record { 0 = (n + at) % tasks })
 
 found : (l : LockId) (n : ℕ) (cs : List ClientState) (a : Call) → releaseFirst l n cs ≡ some a → Found n cs l a
 unfolding releaseFirst
@@ -45,7 +45,7 @@ found l n (c ∷ cs) a e = go (isHolding (c .status)) refl e (found l (suc n) cs
         let q : suc n + f .at ≡ n + suc (f .at) = omega arith in
         record { at = suc (f .at); inside = omega (arith, f .inside); mode = f .mode; holding = f .holding; call = rw q at (f .call) }
 
-    go : (b : Bool) → isHolding (c .status) ≡ b → pick b (some (ReleaseCall l (record { 0 = n / 4 }) (record { 0 = n % 4 }))) (releaseFirst l (suc n) cs) ≡ some a
+    go : (b : Bool) → isHolding (c .status) ≡ b → pick b (some (ReleaseCall l (record { 0 = n / tasks }) (record { 0 = n % tasks }))) (releaseFirst l (suc n) cs) ≡ some a
         → (releaseFirst l (suc n) cs ≡ some a → Found (suc n) cs l a) → Found n (c ∷ cs) l a
     go true q r ih =
         let h = holds (c .status) q in
@@ -61,8 +61,8 @@ next-is l s a e = go (packets (s .wire)) refl e
     go [] q r =
         let f = found l 0 (s .clients) a r in
         let z : 0 + f .at ≡ f .at = omega arith in
-        let w : 4 * (f .at / 4) + f .at % 4 ≡ f .at = omega arith in
-        rw (f .call, z) (releases-holder (record { 0 = f .at / 4 }) (record { 0 = f .at % 4 }) (f .mode) (rw w (f .inside)) (omega arith) q (rw w (f .holding)))
+        let w : tasks * (f .at / tasks) + f .at % tasks ≡ f .at = omega arith in
+        rw (f .call, z) (releases-holder (record { 0 = f .at / tasks }) (record { 0 = f .at % tasks }) (f .mode) (rw w (f .inside)) (omega arith) q (rw w (f .holding)))
     go (p ∷ ps) q r = let z : a ≡ DeliverCall l 0 = cc in rw z (delivers-first (rw q (omega arith)))
 
 -- nobody holds and the wire is empty
@@ -75,7 +75,7 @@ unfolding releaseFirst
 nobody-holds l n [] e c = refl
 nobody-holds l n (x ∷ cs) e c = go (isHolding (x .status)) refl e c (nobody-holds l (suc n) cs)
   where
-    go : (b : Bool) → isHolding (x .status) ≡ b → pick b (some (ReleaseCall l (record { 0 = n / 4 }) (record { 0 = n % 4 }))) (releaseFirst l (suc n) cs) ≡ none → (c : ℕ)
+    go : (b : Bool) → isHolding (x .status) ≡ b → pick b (some (ReleaseCall l (record { 0 = n / tasks }) (record { 0 = n % tasks }))) (releaseFirst l (suc n) cs) ≡ none → (c : ℕ)
         → (releaseFirst l (suc n) cs ≡ none → (c : ℕ) → isHolding (getD cs c idle .status) ≡ false) → isHolding (getD (x ∷ cs) c idle .status) ≡ false
     go true q r c ih = absurd (let z : _≡_ {A = ℕ} 0 1 = cc in omega arith)
     go false q r zero ih = q
@@ -95,11 +95,11 @@ pub record Goes (l : LockId) (x : Cluster) (a : Call) : Type 0 where
   pub allowed : Allowed a (lockIn x l)
   pub step : perform a x ≡ outcomeOf a x
 
-pub goes : (l : LockId) (x : Cluster) (a : Call) → wellFormed x ≡ true → l .0 < 8 → NextIs l (lockIn x l) a → Goes l x a
+pub goes : (l : LockId) (x : Cluster) (a : Call) → wellFormed x ≡ true → l .0 < locks → NextIs l (lockIn x l) a → Goes l x a
 unfolding perform release deliver unless first
 goes l x _ w h (delivers-first n) =
-    record { lock = refl; allowed = may-deliver n; step = rw (w, lt-leb 8 (l .0) h, lt-leb (length (packets (lockIn x l .wire))) 0 n) }
+    record { lock = refl; allowed = may-deliver n; step = rw (w, lt-leb locks (l .0) h, lt-leb (length (packets (lockIn x l .wire))) 0 n) }
 goes l x _ w h (releases-holder k t m i b z e) =
-    let n : length (lockIn x l .clients) ≡ 16 = parts (lockIn x l) (lock-formed x l w h) .sixteen in
-    let j : k .0 < 4 = omega arith in
-    record { lock = refl; allowed = may-release j b m e; step = rw (w, lt-leb 8 (l .0) h, lt-leb 4 (k .0) j, lt-leb 4 (t .0) b, e) }
+    let n : length (lockIn x l .clients) ≡ clients = parts (lockIn x l) (lock-formed x l w h) .all-clients in
+    let j : k .0 < machines = omega arith in
+    record { lock = refl; allowed = may-release j b m e; step = rw (w, lt-leb locks (l .0) h, lt-leb machines (k .0) j, lt-leb tasks (t .0) b, e) }

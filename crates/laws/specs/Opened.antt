@@ -9,13 +9,13 @@ use lib.Dec.{eqb, leb}
 use borrow.Author.Tests.{eqb-true, leb-true, leb-false, not-false}
 use Rattle.model.specs.Lists.{pick, any, all, removed}
 use Rattle.laws.specs.Names.{LockId, MachineId, TaskId, ClientId, Mode, Exclusive, Shared, Packet, Status, Idle, Waiting, Holding, LockState, Cluster, Call, AcquireCall, ReleaseCall, DeliverCall, Refusal, Malformed, WireFull, Answer, Accepted, Refused, Stepped, Outcome}
-use Rattle.model.specs.States.{clientOf, modeOf, modeNumber, statusOf, packets, lockIn, freshLock}
+use Rattle.model.specs.States.{clientOf, modeOf, modeNumber, statusOf, packets, lockIn, freshLock, locks, machines, tasks, wireCapacity}
 use Rattle.model.specs.WellFormed.{wellFormed}
 use Rattle.model.specs.Changes.{Verdict, cannot-place, does, apply, accepted, refused, finish}
 use Rattle.model.specs.Refusals.{refusalNumber, Cause, _when_, first}
 use Rattle.model.specs.Calls.{isIdle, isHolding, names, acquireStep, releaseStep, takes, deliverStep, acquireCauses, releaseCauses, deliverCauses, refusing, settled, unless, acquire, release, deliver, perform}
 use Rattle.laws.specs.Tests.{and-left, and-right}
-use Rattle.laws.specs.Formed.{eight}
+use Rattle.laws.specs.Formed.{all-locks}
 
 -- ---- a call's lock, and its step on that lock's state
 abbrev pub lockOf : Call → LockId
@@ -34,15 +34,15 @@ outcomeOf c x = settled (stepOf c (lockIn x (lockOf c)) .answer) x (lockOf c) (s
 
 -- what the passed tests say of the lock's state
 pub data Allowed : Call → LockState → Type 0 where
-  may-acquire : {l : LockId} {k : MachineId} {t : TaskId} {m : ℕ} {s : LockState} → k .0 < 4 → t .0 < 4 → modeNumber (modeOf m) ≡ m
+  may-acquire : {l : LockId} {k : MachineId} {t : TaskId} {m : ℕ} {s : LockState} → k .0 < machines → t .0 < tasks → modeNumber (modeOf m) ≡ m
       → statusOf s (clientOf k t) ≡ Idle → any (names (clientOf k t)) (packets (s .wire)) ≡ false → Allowed (AcquireCall l k t m) s
-  may-release : {l : LockId} {k : MachineId} {t : TaskId} {s : LockState} → k .0 < 4 → t .0 < 4 → (n : Mode) → statusOf s (clientOf k t) ≡ Holding n
+  may-release : {l : LockId} {k : MachineId} {t : TaskId} {s : LockState} → k .0 < machines → t .0 < tasks → (n : Mode) → statusOf s (clientOf k t) ≡ Holding n
       → Allowed (ReleaseCall l k t) s
   may-deliver : {l : LockId} {i : ℕ} {s : LockState} → i < length (packets (s .wire)) → Allowed (DeliverCall l i) s
 
 pub data Opened (c : Call) (x : Cluster) : Type 0 where
   denied : (r : Refusal) → 1 ≤ refusalNumber r → refusalNumber r ≤ 8 → perform c x ≡ refusing r x → Opened c x
-  passed : lockOf c .0 < 8 → Allowed c (lockIn x (lockOf c)) → perform c x ≡ outcomeOf c x → Opened c x
+  passed : lockOf c .0 < locks → Allowed c (lockIn x (lockOf c)) → perform c x ≡ outcomeOf c x → Opened c x
 
 -- ---- the first cause that holds
 abbrev NoneHolds : List Cause → Type 0
@@ -70,7 +70,7 @@ tested ((r when false) ∷ cs) e = go (tested cs (and-right (early (r when false
 -- with every cause false, the call is its step
 opened-by : (c : Call) (x : Cluster) (cs : List Cause) → wellFormed x ≡ true → all early cs ≡ true
     → perform c x ≡ unless (first ((Malformed when not (wellFormed x)) ∷ cs)) x (lockOf c) (stepOf c (lockIn x (lockOf c)))
-    → (NoneHolds cs → (lockOf c .0 < 8) × Allowed c (lockIn x (lockOf c))) → Opened c x
+    → (NoneHolds cs → (lockOf c .0 < locks) × Allowed c (lockIn x (lockOf c))) → Opened c x
 unfolding first unless
 opened-by c x cs w e q g = go (tested cs e)
   where
@@ -99,15 +99,15 @@ pub opened : (c : Call) (x : Cluster) → wellFormed x ≡ true → Opened c x
 unfolding perform acquire release deliver
 opened (AcquireCall l k t m) x w =
     opened-by (AcquireCall l k t m) x _ w refl refl (λ n. (
-      leb-false 8 _ (n .0),
-      may-acquire (leb-false 4 _ (n .1 .0)) (leb-false 4 _ (n .1 .1 .0)) (mode-number m (n .1 .1 .1 .0))
+      leb-false locks _ (n .0),
+      may-acquire (leb-false machines _ (n .1 .0)) (leb-false tasks _ (n .1 .1 .0)) (mode-number m (n .1 .1 .1 .0))
           (is-idle _ (n .1 .1 .1 .1 .0)) (n .1 .1 .1 .1 .1 .0),
     ))
 opened (ReleaseCall l k t) x w =
     opened-by (ReleaseCall l k t) x _ w refl refl (λ n.
     let h = is-holding _ (n .1 .1 .1 .0) in
-    (leb-false 8 _ (n .0), may-release (leb-false 4 _ (n .1 .0)) (leb-false 4 _ (n .1 .1 .0)) (h .0) (h .1)))
-opened (DeliverCall l i) x w = opened-by (DeliverCall l i) x _ w refl refl (λ n. (leb-false 8 _ (n .0), may-deliver (leb-false _ i (n .1 .0))))
+    (leb-false locks _ (n .0), may-release (leb-false machines _ (n .1 .0)) (leb-false tasks _ (n .1 .1 .0)) (h .0) (h .1)))
+opened (DeliverCall l i) x w = opened-by (DeliverCall l i) x _ w refl refl (λ n. (leb-false locks _ (n .0), may-deliver (leb-false _ i (n .1 .0))))
 
 -- ---- the frame: of other locks, and of the call's own
 settled-elsewhere : (a : Answer) (x : Cluster) (l : LockId) (s : LockState) (j : LockId) → (j .0 ≡ l .0 → ⊥) → lockIn (settled a x l s .cluster) j ≡ lockIn x j
@@ -130,7 +130,7 @@ perform-elsewhere (DeliverCall l i) x j n = unless-elsewhere (first (deliverCaus
 finish-refused : (k : MachineId) (c : ClientId) (w : Verdict) (rest : List Packet) (s : LockState) (r : Refusal) → finish k c w rest s .answer ≡ Refused r → finish k c w rest s .state ≡ s
 unfolding finish
 finish-refused k c cannot-place rest s r e = refl
-finish-refused k c (does v qs) rest s r e = go (leb (length rest + length qs) 33) e
+finish-refused k c (does v qs) rest s r e = go (leb (length rest + length qs) wireCapacity) e
   where
     go : (b : Bool) → pick b (accepted (apply k c v qs rest s)) (refused WireFull s) .answer ≡ Refused r → pick b (accepted (apply k c v qs rest s)) (refused WireFull s) .state ≡ s
     go true e = cc
@@ -150,6 +150,6 @@ outcome-here c x h = go (stepOf c (lockIn x (lockOf c)) .answer) refl
     go Accepted e = getD-set-same (x .locks) (lockOf c .0) _ freshLock h
     go (Refused r) e = sym (step-refused c (lockIn x (lockOf c)) r e)
 
-pub perform-here : (c : Call) (x : Cluster) → wellFormed x ≡ true → lockOf c .0 < 8 → perform c x ≡ outcomeOf c x
+pub perform-here : (c : Call) (x : Cluster) → wellFormed x ≡ true → lockOf c .0 < locks → perform c x ≡ outcomeOf c x
     → lockIn (perform c x .cluster) (lockOf c) ≡ stepOf c (lockIn x (lockOf c)) .state
-perform-here c x w h e = rw e (outcome-here c x (rw (eight x w) h))
+perform-here c x w h e = rw e (outcome-here c x (rw (all-locks x w) h))

@@ -6,30 +6,30 @@ use native.Mathlib.Omega.{arith}
 use lib.ListN.{length, take, getD}
 use lib.Seq.{getD-take}
 use Rattle.laws.specs.Names.{Waiter, Queue, Packet, Wire}
-use Rattle.model.specs.States.{blankWaiter, queueOf, waiters, blankPacket, wireOf, packets}
+use Rattle.model.specs.States.{blankWaiter, queueOf, waiters, blankPacket, wireOf, packets, queueCapacity, wireCapacity}
 use Rattle.laws.specs.Lists.{getD-any, Canonical, take-padded, canonical-padded}
 
 abbrev pub CanonicalWire : Wire → Type 0
-CanonicalWire w = Canonical 33 blankPacket (w .slots) (w .len)
+CanonicalWire w = Canonical wireCapacity blankPacket (w .slots) (w .len)
 
 abbrev pub CanonicalQueue : Queue → Type 0
-CanonicalQueue q = Canonical 16 blankWaiter (q .slots) (q .len)
+CanonicalQueue q = Canonical queueCapacity blankWaiter (q .slots) (q .len)
 
 pub packets-of : (ps : List Packet) → packets (wireOf ps) ≡ ps
 unfolding packets wireOf
-packets-of ps = take-padded 33 blankPacket ps
+packets-of ps = take-padded wireCapacity blankPacket ps
 
 pub waiters-of : (ws : List Waiter) → waiters (queueOf ws) ≡ ws
 unfolding waiters queueOf
-waiters-of ws = take-padded 16 blankWaiter ws
+waiters-of ws = take-padded queueCapacity blankWaiter ws
 
-pub canonical-wire : (ps : List Packet) → length ps ≤ 33 → CanonicalWire (wireOf ps)
+pub canonical-wire : (ps : List Packet) → length ps ≤ wireCapacity → CanonicalWire (wireOf ps)
 unfolding wireOf
-canonical-wire ps h = canonical-padded 33 blankPacket ps h
+canonical-wire ps h = canonical-padded wireCapacity blankPacket ps h
 
-pub canonical-queue : (ws : List Waiter) → length ws ≤ 16 → CanonicalQueue (queueOf ws)
+pub canonical-queue : (ws : List Waiter) → length ws ≤ queueCapacity → CanonicalQueue (queueOf ws)
 unfolding queueOf
-canonical-queue ws h = canonical-padded 16 blankWaiter ws h
+canonical-queue ws h = canonical-padded queueCapacity blankWaiter ws h
 
 pub length-packets : (w : Wire) → CanonicalWire w → length (packets w) ≡ w .len
 unfolding packets

@@ -6,7 +6,7 @@ use lib.ListN.{length, set}
 use lib.Dec.{leb}
 use Rattle.model.specs.Lists.{pick, any}
 use Rattle.model.specs.Names.{ClientId, Mode, Waiter, Queue, Agent, AgentSlot, ToDecider, Message, Free, Acquire, Grant, Release, Packet, Idle, Waiting, Holding, Site}
-use Rattle.model.specs.States.{queueCapacity, queueOf, waiters, seated, noAgent, listed, packet, isShared}
+use Rattle.model.specs.States.{queueCapacity, queueOf, waiters, seated, noAgent, listed, plain, carrying, isShared}
 use Rattle.model.specs.WellFormed.{isClient}
 use Rattle.model.specs.Changes.{Verdict, cannot-place, does, withSlot, withStatus}
 
@@ -29,19 +29,19 @@ noRoom a c = any (isClient c) (waiters (a .queue)) || leb queueCapacity (length 
 abbrev pub withRoom : Agent → ClientId → Verdict → Verdict
 withRoom a c w = pick (noRoom a c) cannot-place w
 
--- agent and request are both shared
-abbrev pub mayJoin : Agent → Mode → Bool
-mayJoin a m = isShared (a .mode) && isShared m
+-- may a request join the holders of the site's agent: agent and request are both shared
+unfoldable pub mayJoin : Site → Mode → Bool
+mayJoin v m = isShared (v .slot .agent .mode) && isShared m
 
 -- **Acquire.** With an agent on the client's own machine: if agent and request are both shared, the client joins the holders and
 -- is holding at once; otherwise it joins the queue's end and is waiting. No packet is sent and no incarnation moves. With no such
 -- agent: an unmarked ACQUIRE to the decider is sent; the client is waiting. The Bool: the agent a is there.
 unfoldable pub asks : Site → ClientId → Mode → Bool → Agent → Verdict
 asks v c m true a =
-    pick (mayJoin a m)
+    pick (mayJoin v m)
     (does (withSlot (withStatus v (Holding m)) (seated (joining a c))) [])
     (withRoom a c (does (withSlot (withStatus v (Waiting m)) (seated (queuing a c m))) []))
-asks v c m false a = does (withStatus v (Waiting m)) (packet (Acquire c m false) ToDecider ∷ [])
+asks v c m false a = does (withStatus v (Waiting m)) (plain (Acquire c m false) ToDecider ∷ [])
 
 unfoldable pub acquires : Site → ClientId → Mode → Verdict
 acquires v c m = asks v c m (v .slot .present) (v .slot .agent)
@@ -55,7 +55,7 @@ abbrev pub without : Agent → ClientId → List Bool
 without a c = set (a .holders) (c .0) false
 
 abbrev pub departing : Message → Agent → List Bool → List Waiter → Packet
-departing m a hs ws = record { message = m; to = ToDecider; rejected = false; carried = seated (changed a hs (queueOf ws) (a .incarnation)) }
+departing m a hs ws = carrying m ToDecider (changed a hs (queueOf ws) (a .incarnation))
 
 unfoldable pub handOver : Agent → List Bool → List Waiter → Packet
 handOver a hs [] = departing Free a hs []
@@ -79,4 +79,4 @@ unfoldable pub releases : Site → ClientId → Verdict
 releases v c =
     pick (lists (v .slot) c)
     (leaves (withStatus v Idle) (v .slot .agent) c)
-    (does (withStatus v Idle) (packet (Release c) ToDecider ∷ []))
+    (does (withStatus v Idle) (plain (Release c) ToDecider ∷ []))

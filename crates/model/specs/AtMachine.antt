@@ -1,42 +1,40 @@
 -- At a machine (Figure 7, 4.2).
-use mathlib.Core.Bool.{Bool, true, false}
+use mathlib.Core.Bool.{Bool, true, false, _&&_}
 use mathlib.Core.List.{List, [], _∷_, map}
 use lib.ListN.{set}
 use Rattle.model.specs.Lists.{pick}
-use Rattle.model.specs.Names.{ClientId, Mode, Exclusive, Shared, Waiter, Agent, AgentSlot, ToDecider, Message, Free, Acquire, Grant, Release, Packet, Holding, Site}
-use Rattle.model.specs.States.{queueOf, waiters, seated, packet, isShared}
+use Rattle.model.specs.Names.{ClientId, Mode, Shared, Waiter, Agent, AgentSlot, ToDecider, Message, Free, Acquire, Grant, Release, Packet, Holding, Site}
+use Rattle.model.specs.States.{queueOf, waiters, seated, plain, resent, isShared}
 use Rattle.model.specs.Changes.{Verdict, cannot-place, does, withSlot, withStatus}
 use Rattle.model.specs.Asking.{changed, joining, queuing, withRoom, mayJoin, leaves, lists}
 use Rattle.model.specs.AtDecider.{next}
 
 -- sent back to the decider as it is
-abbrev pub bounced : Packet → Packet
-bounced p = record { message = p .message; to = ToDecider; rejected = p .rejected; carried = p .carried }
+abbrev pub sentBack : Packet → Packet
+sentBack p = resent p ToDecider (p .rejected)
 
-abbrev pub bounces : Site → Packet → Verdict
-bounces v p = does v (bounced p ∷ [])
+abbrev pub sendsBack : Site → Packet → Verdict
+sendsBack v p = does v (sentBack p ∷ [])
 
--- Every shared waiter, in queue order, leaves the queue, joins the holders, and a GRANT without agent for it goes to the decider.
-unfoldable pub ofMode : Bool → List Waiter → List Waiter
-ofMode b [] = []
-ofMode true (w ∷ ws) = pick (isShared (w .mode)) (w ∷ ofMode true ws) (ofMode true ws)
-ofMode false (w ∷ ws) = pick (isShared (w .mode)) (ofMode false ws) (w ∷ ofMode false ws)
+-- Every shared waiter, in queue order, leaves the queue, joins the holders, and a GRANT without agent for it goes to the decider: who leaves
+-- where an agent is installed with the mode, and who stays
+abbrev pub mayLeave : Mode → Waiter → Bool
+mayLeave m w = isShared m && isShared (w .mode)
 
--- who leaves the queue where an agent is installed with the mode, and who stays in it
 unfoldable pub admitted : Mode → List Waiter → List Waiter
-admitted Exclusive ws = []
-admitted Shared ws = ofMode true ws
+admitted m [] = []
+admitted m (w ∷ ws) = pick (mayLeave m w) (w ∷ admitted m ws) (admitted m ws)
 
 unfoldable pub staying : Mode → List Waiter → List Waiter
-staying Exclusive ws = ws
-staying Shared ws = ofMode false ws
+staying m [] = []
+staying m (w ∷ ws) = pick (mayLeave m w) (staying m ws) (w ∷ staying m ws)
 
 unfoldable pub joined : List Bool → List Waiter → List Bool
 joined hs [] = hs
 joined hs (w ∷ ws) = joined (set hs (w .client .0) true) ws
 
 abbrev pub grantOf : Waiter → Packet
-grantOf w = packet (Grant (w .client) Shared) ToDecider
+grantOf w = plain (Grant (w .client) Shared) ToDecider
 
 -- With an agent: the agent is installed with the GRANT's mode and the client added to its holders. If that mode is shared, the
 -- shared waiters join.
@@ -75,19 +73,19 @@ marked v a c =
 -- decider; otherwise it joins the queue's end.
 unfoldable pub unmarked : Site → Agent → ClientId → Mode → Verdict
 unmarked v a c m =
-    pick (mayJoin a m)
-    (does (withSlot v (seated (joining a c))) (packet (Grant c m) ToDecider ∷ []))
+    pick (mayJoin v m)
+    (does (withSlot v (seated (joining a c))) (plain (Grant c m) ToDecider ∷ []))
     (withRoom a c (does (withSlot v (seated (queuing a c m))) []))
 
 -- ACQUIRE with no agent here: sent back to the decider as it is. The first Bool: an agent is here; the second: marked granted.
 unfoldable pub acquired : Bool → Site → Agent → Packet → ClientId → Mode → Bool → Verdict
-acquired false v a p c m g = bounces v p
+acquired false v a p c m g = sendsBack v p
 acquired true v a p c m true = marked v a c
 acquired true v a p c m false = unmarked v a c m
 
 -- RELEASE of a listed holder: removed, then leaves if empty. Of anyone else, or with no agent here: sent back to the decider.
 unfoldable pub released : Site → Packet → ClientId → Verdict
-released v p c = pick (lists (v .slot) c) (leaves v (v .slot .agent) c) (bounces v p)
+released v p c = pick (lists (v .slot) c) (leaves v (v .slot .agent) c) (sendsBack v p)
 
 -- Turned-back FREE: the carried agent is installed as carried. At a machine that has an agent, another agent cannot be placed.
 unfoldable pub returned : Bool → Site → AgentSlot → Verdict

@@ -6,7 +6,7 @@ use lib.ListN.{length}
 use lib.Dec.{leb}
 use Rattle.model.specs.Lists.{pick}
 use Rattle.model.specs.Names.{LockId, Packet, ClientState, LockState, Cluster, Call, ReleaseCall, DeliverCall, Refusal, Malformed, LockRange, NotQuiescent, Answer, Accepted, Refused, Drained}
-use Rattle.model.specs.States.{locks, packets, lockIn}
+use Rattle.model.specs.States.{locks, tasks, packets, lockIn}
 use Rattle.model.specs.WellFormed.{wellFormed}
 use Rattle.model.specs.Refusals.{_when_, first}
 use Rattle.model.specs.Calls.{isHolding, perform}
@@ -23,7 +23,7 @@ pub data Next : Type 0 where
 -- With an empty wire, release the holding client of lowest number; n is the number of the first client in the list.
 unfoldable pub releaseFirst : LockId → ℕ → List ClientState → Next
 releaseFirst l n [] = none
-releaseFirst l n (c ∷ cs) = pick (isHolding (c .status)) (some (ReleaseCall l (record { 0 = n / 4 }) (record { 0 = n % 4 }))) (releaseFirst l (suc n) cs)
+releaseFirst l n (c ∷ cs) = pick (isHolding (c .status)) (some (ReleaseCall l (record { 0 = n / tasks }) (record { 0 = n % tasks }))) (releaseFirst l (suc n) cs)
 
 -- Deliver place 0; with an empty wire, release; with neither, stop.
 unfoldable pub nextOf : LockId → List Packet → List ClientState → Next

@@ -18,14 +18,14 @@ abbrev pub tasks : ℕ
 tasks = 4
 
 abbrev pub clients : ℕ
-clients = 16
+clients = machines * tasks
 
 -- A client is a machine and a task; its number is 4 × machine + task, 0 to 15.
 abbrev pub clientOf : MachineId → TaskId → ClientId
-clientOf k t = record { 0 = 4 * k .0 + t .0 }
+clientOf k t = record { 0 = tasks * k .0 + t .0 }
 
 abbrev pub machineOf : ClientId → MachineId
-machineOf c = record { 0 = c .0 / 4 }
+machineOf c = record { 0 = c .0 / tasks }
 
 -- Modes are those of Figure 6: free 0, exclusive 2, shared 3; only a decider's may be 0.
 abbrev pub modeNumber : Mode → ℕ
@@ -88,12 +88,19 @@ statusOf s c = getD (s .clients) (c .0) idle .status
 abbrev pub wireCapacity : ℕ
 wireCapacity = 33
 
--- a packet that is not rejected and carries no agent
-abbrev pub packet : Message → Address → Packet
-packet m t = record { message = m; to = t; rejected = false; carried = noAgent }
+-- Packets are made in three ways: new and without agent; new, with the agent inside; and the same again, for another address, with
+-- or without the mark of the rejected.
+abbrev pub plain : Message → Address → Packet
+plain m t = record { message = m; to = t; rejected = false; carried = noAgent }
+
+abbrev pub carrying : Message → Address → Agent → Packet
+carrying m t a = record { message = m; to = t; rejected = false; carried = seated a }
+
+abbrev pub resent : Packet → Address → Bool → Packet
+resent p t b = record { message = p .message; to = t; rejected = b; carried = p .carried }
 
 unfoldable pub blankPacket : Packet
-blankPacket = packet Free ToDecider
+blankPacket = plain Free ToDecider
 
 unfoldable pub wireOf : List Packet → Wire
 wireOf ps = record { slots = padded wireCapacity blankPacket ps; len = length ps }

@@ -3,6 +3,22 @@
 ghost use mathlib.Core.Path.{_≡_};
 ghost use Rattle.model.specs.Refusals.{refusalNumber, number};
 
+// The sizes of the cluster: specs/States.antt has the same numbers under the same names.
+pub const LOCKS: usize = 8;
+
+pub const MACHINES: usize = 4;
+
+pub const TASKS: usize = 4;
+
+pub const CLIENTS: usize = MACHINES * TASKS;
+
+pub const QUEUE_CAPACITY: usize = 16;
+
+pub const WIRE_CAPACITY: usize = 33;
+
+// The steps that a drain may take (specs/Drain.antt).
+pub const ALLOWANCE: u16 = 16384;
+
 // The source's lid, mid and tid: no place that wants one takes another.
 pub struct LockId(pub u8);
 
@@ -36,13 +52,13 @@ pub struct Waiter {
 
 // The first len slots count, the others are blank; so too of a wire.
 pub struct Queue {
-    pub slots: [Waiter; 16],
+    pub slots: [Waiter; QUEUE_CAPACITY],
     pub len: u8,
 }
 
 pub struct Agent {
     pub mode: Mode,
-    pub holders: [bool; 16],
+    pub holders: [bool; CLIENTS],
     pub queue: Queue,
     pub incarnation: u8,
 }
@@ -84,7 +100,7 @@ pub struct Packet {
 }
 
 pub struct Wire {
-    pub slots: [Packet; 33],
+    pub slots: [Packet; WIRE_CAPACITY],
     pub len: u8,
 }
 
@@ -108,14 +124,14 @@ pub struct Site {
 // A lock's record in document 01.
 pub struct LockState {
     pub decider: Decider,
-    pub agents: [AgentSlot; 4],
-    pub clients: [ClientState; 16],
+    pub agents: [AgentSlot; MACHINES],
+    pub clients: [ClientState; CLIENTS],
     pub wire: Wire,
 }
 
 // The bench in document 01.
 pub struct Cluster {
-    pub locks: [LockState; 8],
+    pub locks: [LockState; LOCKS],
 }
 
 // A call as data. Its numbers are as given, in range or not.

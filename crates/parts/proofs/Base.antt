@@ -10,7 +10,7 @@ pub use borrow.Author.Tests.{eq-eqb, ne-eqb, le-leb, lt-leb}
 pub use Rattle.parts.specs.Names.{ClientState}
 pub use Rattle.model.specs.Lists.{any}
 unfoldable pub use Rattle.model.specs.Lists.{padded}
-pub use Rattle.model.specs.States.{blankWaiter, idle}
+pub use Rattle.model.specs.States.{machines, clients, queueCapacity, wireCapacity, blankWaiter, idle}
 unfoldable pub use Rattle.model.specs.States.{queueOf, waiters, noAgent, blankPacket, packets}
 pub use Rattle.model.specs.WellFormed.{isClient}
 pub use Rattle.model.specs.Calls.{names}

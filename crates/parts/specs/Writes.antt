@@ -9,28 +9,28 @@ use lib.Dec.{leb}
 use borrow.Author.Tests.{leb-true, leb-false}
 use Rattle.parts.specs.Names.{Waiter, Queue, Packet, Wire}
 use Rattle.model.specs.Lists.{pick, removed}
-use Rattle.model.specs.States.{blankWaiter, queueOf, waiters, blankPacket, wireOf, packets}
+use Rattle.model.specs.States.{queueCapacity, blankWaiter, queueOf, waiters, wireCapacity, blankPacket, wireOf, packets}
 use Rattle.laws.specs.Lists.{length-removed}
 use Rattle.laws.specs.Shapes.{CanonicalWire, CanonicalQueue, length-packets, wire-whole}
 use Rattle.parts.specs.Arrays.{cutUsed, cutAt, cutAt-in, cutAt-out, slid, canonical-push, canonical-cut, canonical-front}
 
-pub sent-at : (w : Wire) (p : Packet) → CanonicalWire w → w .len < 33 → record { slots = set (w .slots) (w .len) p; len = w .len + 1 } ≡ wireOf (packets w ++ p ∷ [])
+pub sent-at : (w : Wire) (p : Packet) → CanonicalWire w → w .len < wireCapacity → record { slots = set (w .slots) (w .len) p; len = w .len + 1 } ≡ wireOf (packets w ++ p ∷ [])
 unfolding packets wireOf
 sent-at w p h k =
     let e : length (take (w .len) (w .slots) ++ p ∷ []) ≡ w .len + 1 = simp length-append (omega (arith, h .size)) in
-    rw (e, canonical-push 33 blankPacket (w .slots) (w .len) h p k)
+    rw (e, canonical-push wireCapacity blankPacket (w .slots) (w .len) h p k)
 
-pub queued-at : (q : Queue) (a : Waiter) → CanonicalQueue q → q .len < 16 → record { slots = set (q .slots) (q .len) a; len = q .len + 1 } ≡ queueOf (waiters q ++ a ∷ [])
+pub queued-at : (q : Queue) (a : Waiter) → CanonicalQueue q → q .len < queueCapacity → record { slots = set (q .slots) (q .len) a; len = q .len + 1 } ≡ queueOf (waiters q ++ a ∷ [])
 unfolding waiters queueOf
 queued-at q a h k =
     let e : length (take (q .len) (q .slots) ++ a ∷ []) ≡ q .len + 1 = simp length-append (omega (arith, h .size)) in
-    rw (e, canonical-push 16 blankWaiter (q .slots) (q .len) h a k)
+    rw (e, canonical-push queueCapacity blankWaiter (q .slots) (q .len) h a k)
 
 taken-off : (w : Wire) (i : ℕ) → CanonicalWire w → i < w .len → record { slots = cutUsed (w .slots) i (w .len) blankPacket; len = w .len - 1 } ≡ wireOf (removed (packets w) i)
 unfolding packets wireOf
 taken-off w i h k =
     let e : length (removed (take (w .len) (w .slots)) i) ≡ w .len - 1 = omega (arith, length-removed (take (w .len) (w .slots)) i (omega (arith, h .size)), h .size) in
-    rw (e, canonical-cut 33 blankPacket (w .slots) (w .len) h i k)
+    rw (e, canonical-cut wireCapacity blankPacket (w .slots) (w .len) h i k)
 
 pub removed-none : (ps : List Packet) (i : ℕ) → length ps ≤ i → removed ps i ≡ ps
 unfolding removed
@@ -56,10 +56,10 @@ pub popped : (q : Queue) → CanonicalQueue q → 0 < q .len → record { slots 
 unfolding waiters queueOf
 popped q h k =
     let e : length (removed (take (q .len) (q .slots)) 0) ≡ q .len - 1 = omega (arith, length-removed (take (q .len) (q .slots)) 0 (omega (arith, h .size)), h .size) in
-    rw (e, canonical-cut 16 blankWaiter (q .slots) (q .len) h 0 k)
+    rw (e, canonical-cut queueCapacity blankWaiter (q .slots) (q .len) h 0 k)
 
-pub fronted : (q : Queue) (a : Waiter) → CanonicalQueue q → q .len < 16 → record { slots = slid (q .slots) (q .len) a; len = q .len + 1 } ≡ queueOf (a ∷ waiters q)
+pub fronted : (q : Queue) (a : Waiter) → CanonicalQueue q → q .len < queueCapacity → record { slots = slid (q .slots) (q .len) a; len = q .len + 1 } ≡ queueOf (a ∷ waiters q)
 unfolding waiters queueOf
 fronted q a h k =
     let e : length (a ∷ take (q .len) (q .slots)) ≡ q .len + 1 = omega (arith, h .size) in
-    rw (canonical-front 16 blankWaiter (q .slots) (q .len) h a k, ← e)
+    rw (canonical-front queueCapacity blankWaiter (q .slots) (q .len) h a k, ← e)

@@ -2,15 +2,17 @@
 use model::Address;
 use model::Agent;
 use model::AgentSlot;
+use model::CLIENTS;
 use model::ClientId;
 use model::Message;
 use model::Mode;
 use model::Packet;
+use model::QUEUE_CAPACITY;
 use model::Queue;
 use model::Waiter;
 ghost use mathlib.Core.Path.{_≡_};
 ghost use mathlib.Core.List.{[]};
-ghost use Rattle.model.specs.States.{blankWaiter, queueOf, newAgent, seated, noAgent, packet, blankPacket};
+ghost use Rattle.model.specs.States.{blankWaiter, queueOf, newAgent, seated, noAgent, plain, carrying, resent, blankPacket};
 
 pub fn blank_waiter() -> Waiter
     ensures { λ r. ⌜ r ≡ blankWaiter ⌝ }
@@ -26,7 +28,7 @@ pub fn empty_queue() -> Queue
 {
     let w = blank_waiter();
     Queue {
-        slots: [w; 16],
+        slots: [w; QUEUE_CAPACITY],
         len: 0,
     }
 }
@@ -37,7 +39,7 @@ pub fn new_agent(m: Mode) -> Agent
     let q = empty_queue();
     Agent {
         mode: m,
-        holders: [false; 16],
+        holders: [false; CLIENTS],
         queue: q,
         incarnation: 0,
     }
@@ -62,15 +64,42 @@ pub fn no_agent() -> AgentSlot
     }
 }
 
-// A packet that is not rejected and carries no agent.
+// ---- packets, made in these three ways only
 pub fn plain_packet(m: Message, t: Address) -> Packet
-    ensures { λ r. ⌜ r ≡ packet m t ⌝ }
+    ensures { λ r. ⌜ r ≡ plain m t ⌝ }
 {
     let x = no_agent();
     Packet {
         message: m,
         to: t,
         rejected: false,
+        carried: x,
+    }
+}
+
+// The agent goes inside.
+pub fn carrying(m: Message, t: Address, a: Agent) -> Packet
+    ensures { λ r. ⌜ r ≡ carrying m t a ⌝ }
+{
+    let x = seat(a);
+    Packet {
+        message: m,
+        to: t,
+        rejected: false,
+        carried: x,
+    }
+}
+
+// The same packet again, for another address or with another mark.
+pub fn resent(p: Packet, t: Address, b: bool) -> Packet
+    ensures { λ r. ⌜ r ≡ resent p t b ⌝ }
+{
+    let m = p.message;
+    let x = p.carried;
+    Packet {
+        message: m,
+        to: t,
+        rejected: b,
         carried: x,
     }
 }

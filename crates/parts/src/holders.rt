@@ -1,36 +1,37 @@
 // An agent's set of holders. A client's number past the array's end is in no set.
 use model::Agent;
+use model::CLIENTS;
 use model::ClientId;
 use model::Mode;
 ghost use mathlib.Core.Path.{_≡_};
 ghost use mathlib.Core.Bool.{false};
 ghost use lib.ListN.{set, getD};
 ghost use Rattle.model.specs.States.{isShared};
-ghost use Rattle.model.specs.Asking.{joining, mayJoin, anyHolder};
+ghost use Rattle.model.specs.Asking.{joining, anyHolder};
 
-pub fn set_holder(h: [bool; 16], c: ClientId, b: bool) -> [bool; 16]
+pub fn set_holder(h: [bool; CLIENTS], c: ClientId, b: bool) -> [bool; CLIENTS]
     ensures { λ r. ⌜ r ≡ set h (c .0) b ⌝ }
 {
     let mut g = h;
     let i = c.0 as usize;
-    if i < 16 {
+    if i < CLIENTS {
         g[i] = b;
     }
     g
 }
 
-pub fn holds(h: [bool; 16], c: ClientId) -> bool
+pub fn holds(h: [bool; CLIENTS], c: ClientId) -> bool
     ensures { λ r. ⌜ r ≡ getD h (c .0) false ⌝ }
 {
     let i = c.0 as usize;
-    if i < 16 { h[i] } else { false }
+    if i < CLIENTS { h[i] } else { false }
 }
 
-pub fn any_holder(h: [bool; 16]) -> bool
+pub fn any_holder(h: [bool; CLIENTS]) -> bool
     ensures { λ r. ⌜ r ≡ anyHolder h ⌝ }
 {
     let mut j: usize = 0;
-    while j < 16 {
+    while j < CLIENTS {
         if h[j] {
             return true;
         }
@@ -56,12 +57,4 @@ pub fn is_shared(m: Mode) -> bool
         Mode::Exclusive => false,
         Mode::Shared => true,
     }
-}
-
-// A request in mode m may join the holders: agent and request are both shared.
-pub fn may_join(a: Agent, m: Mode) -> bool
-    ensures { λ r. ⌜ r ≡ mayJoin a m ⌝ }
-{
-    let n = a.mode;
-    if is_shared(n) { is_shared(m) } else { false }
 }

@@ -2,6 +2,7 @@
 use crate::blank::blank_waiter;
 use model::Agent;
 use model::ClientId;
+use model::QUEUE_CAPACITY;
 use model::Queue;
 use model::Waiter;
 ghost use mathlib.Core.Path.{_≡_};
@@ -9,14 +10,14 @@ ghost use mathlib.Core.List.{[], _∷_, _++_};
 ghost use Prim.Native.Nat.{_<_, _≤_};
 ghost use lib.ListN.{take, getD};
 ghost use Rattle.model.specs.Lists.{any, removed};
-ghost use Rattle.model.specs.States.{blankWaiter, queueOf, waiters};
+ghost use Rattle.model.specs.States.{queueCapacity, blankWaiter, queueOf, waiters};
 ghost use Rattle.model.specs.WellFormed.{isClient};
 ghost use Rattle.model.specs.Asking.{noRoom};
 ghost use Rattle.laws.specs.Shapes.{CanonicalQueue};
 ghost use Rattle.parts.specs.Arrays.{cutUsed, slid};
 
 pub fn push(mut q: Queue, w: Waiter) -> Queue
-    requires { ⌜ (CanonicalQueue q) × (q .len < 16) ⌝ }
+    requires { ⌜ (CanonicalQueue q) × (q .len < queueCapacity) ⌝ }
     ensures { λ r. ⌜ r ≡ queueOf (waiters q ++ w ∷ []) ⌝ }
 {
     let n = q.len;
@@ -34,8 +35,8 @@ pub fn first(q: Queue) -> Waiter
 }
 
 // The first of n waiters is out, the others move up, and the freed slot is blank.
-pub fn cut_waiters(a: [Waiter; 16], n: usize) -> [Waiter; 16]
-    requires { ⌜ (0 < n) × (n ≤ 16) ⌝ }
+pub fn cut_waiters(a: [Waiter; QUEUE_CAPACITY], n: usize) -> [Waiter; QUEUE_CAPACITY]
+    requires { ⌜ (0 < n) × (n ≤ queueCapacity) ⌝ }
     ensures { λ r. ⌜ r ≡ cutUsed a 0 n blankWaiter ⌝ }
 {
     let mut b = a;
@@ -63,8 +64,8 @@ pub fn pop(q: Queue) -> Queue
 }
 
 // The first n waiters move down by one, and w stands before them.
-pub fn slide_waiters(a: [Waiter; 16], n: usize, w: Waiter) -> [Waiter; 16]
-    requires { ⌜ n < 16 ⌝ }
+pub fn slide_waiters(a: [Waiter; QUEUE_CAPACITY], n: usize, w: Waiter) -> [Waiter; QUEUE_CAPACITY]
+    requires { ⌜ n < queueCapacity ⌝ }
     ensures { λ r. ⌜ r ≡ slid a n w ⌝ }
 {
     let mut b = a;
@@ -78,7 +79,7 @@ pub fn slide_waiters(a: [Waiter; 16], n: usize, w: Waiter) -> [Waiter; 16]
 }
 
 pub fn push_front(q: Queue, w: Waiter) -> Queue
-    requires { ⌜ (CanonicalQueue q) × (q .len < 16) ⌝ }
+    requires { ⌜ (CanonicalQueue q) × (q .len < queueCapacity) ⌝ }
     ensures { λ r. ⌜ r ≡ queueOf (w ∷ waiters q) ⌝ }
 {
     let a = q.slots;
@@ -90,8 +91,8 @@ pub fn push_front(q: Queue, w: Waiter) -> Queue
     }
 }
 
-pub fn waiting_in(a: [Waiter; 16], n: usize, c: ClientId) -> bool
-    requires { ⌜ n ≤ 16 ⌝ }
+pub fn waiting_in(a: [Waiter; QUEUE_CAPACITY], n: usize, c: ClientId) -> bool
+    requires { ⌜ n ≤ queueCapacity ⌝ }
     ensures { λ r. ⌜ r ≡ any (isClient c) (take n a) ⌝ }
 {
     let mut j: usize = 0;
@@ -116,6 +117,6 @@ pub fn no_room(a: Agent, c: ClientId) -> bool
     if waiting_in(slots, n, c) {
         true
     } else {
-        16 <= n
+        QUEUE_CAPACITY <= n
     }
 }

@@ -3,20 +3,21 @@ use crate::blank::blank_packet;
 use model::ClientId;
 use model::Message;
 use model::Packet;
+use model::WIRE_CAPACITY;
 use model::Wire;
 ghost use mathlib.Core.Path.{_≡_};
 ghost use Prim.Native.Nat.{_-_, _<_, _≤_};
 ghost use lib.ListN.{take, getD};
 ghost use lib.Dec.{leb};
 ghost use Rattle.model.specs.Lists.{pick, any, removed};
-ghost use Rattle.model.specs.States.{blankPacket, wireOf, packets};
+ghost use Rattle.model.specs.States.{wireCapacity, blankPacket, wireOf, packets};
 ghost use Rattle.model.specs.Calls.{messageNames, names};
 ghost use Rattle.laws.specs.Shapes.{CanonicalWire};
 ghost use Rattle.parts.specs.Arrays.{cutAt};
 
 // Only the used part moves: the packet at i is out of the first n, the others stand first, and the freed slot is blank. Past the n none is out.
-pub fn cut_packets(a: [Packet; 33], i: usize, n: usize) -> [Packet; 33]
-    requires { ⌜ (i ≤ 255) × (n ≤ 33) ⌝ }
+pub fn cut_packets(a: [Packet; WIRE_CAPACITY], i: usize, n: usize) -> [Packet; WIRE_CAPACITY]
+    requires { ⌜ (i ≤ 255) × (n ≤ wireCapacity) ⌝ }
     ensures { λ r. ⌜ r ≡ cutAt a i n blankPacket ⌝ }
 {
     let mut b = a;
@@ -76,8 +77,8 @@ pub fn message_names(m: Message, c: ClientId) -> bool
     }
 }
 
-pub fn names_any(a: [Packet; 33], n: usize, c: ClientId) -> bool
-    requires { ⌜ n ≤ 33 ⌝ }
+pub fn names_any(a: [Packet; WIRE_CAPACITY], n: usize, c: ClientId) -> bool
+    requires { ⌜ n ≤ wireCapacity ⌝ }
     ensures { λ r. ⌜ r ≡ any (names c) (take n a) ⌝ }
 {
     let mut j: usize = 0;

@@ -9,6 +9,7 @@ use engine::within::call_within;
 use engine::within::lock_of;
 use model::Answer;
 use model::Call;
+use model::LOCKS;
 use model::Reading;
 use model::Refusal;
 use transcript::reader::read_at;
@@ -75,7 +76,7 @@ fn list_records(out: &mut [u8; 8192], start: usize, bytes: &[u8]) -> usize {
         match r {
             Reading::Record { call, next } => {
                 let l = lock_of(call);
-                if l.0 < 8 {
+                if l.0 < LOCKS as u8 {
                     let i = l.0 as usize;
                     let s = x.locks[i];
                     let o = call_within(call, s);

@@ -1,6 +1,5 @@
 -- The names that the proofs cite.
 pub use mathlib.Core.Path.{_≡_, refl, sym, ap, _∙_}
-pub use mathlib.Core.Bool.{Bool, true, false}
 pub use mathlib.Core.List.{[], _∷_, map}
 pub use mathlib.Core.Logic.{⊎-elim}
 pub use native.Mathlib.Numerals.{add-one}
@@ -10,22 +9,23 @@ pub use lib.ListN.{length, take, drop, length-set}
 pub use lib.Seq.{length-take-le, take-all, sets}
 pub use borrow.Author.Needs.{needs}
 pub use Rattle.model.specs.Lists.{removed}
-pub use Rattle.model.specs.States.{machineOf, blankWaiter, agentOn}
+pub use Rattle.model.specs.States.{queueCapacity, wireCapacity, blankWaiter}
 unfoldable pub use Rattle.model.specs.States.{queueOf, waiters, packets}
 pub use Rattle.model.specs.AtMachine.{grantOf}
 pub use Rattle.laws.specs.Lists.{length-removed}
 pub use Rattle.laws.specs.Shapes.{packets-of, waiters-of, length-packets, queue-whole}
+pub use Rattle.laws.specs.Parting.{none-leaves}
 pub use Rattle.parts.specs.Writes.{removed-none}
 pub use Rattle.parts.specs.Scans.{opened, closed}
 unfoldable pub use Rattle.rules.specs.Effects.{sentBy, verdictOf}
 pub use Rattle.rules.specs.Effects.{sent-length, few-of-two, some-of-two, all-of-two, lays-none, lays-one, posted-both}
 pub use Rattle.rules.specs.Leaving.{hands-on, frees}
-pub use Rattle.rules.specs.Admits.{Room, admits, admits-none, admits-more, room-first, room-more, shared-fits, shared-joins, exclusive-fits, exclusive-stays, room-start, admits-start, room-left}
+pub use Rattle.rules.specs.Admits.{Room, admits, admits-none, admits-next, room-next, room-start, admits-start, room-left}
+unfoldable pub use Rattle.rules.specs.Admits.{admitsOne}
 pub use Rattle.rules.specs.Deciding.{marked-sent}
-pub use Rattle.model.specs.Asking.{lists}
-unfoldable pub use Rattle.model.specs.Asking.{asks, acquires, staysIf, releases}
-unfoldable pub use Rattle.model.specs.AtDecider.{toOwner, decidesAcquire, decidesFree, decidesGrant, decides, atDecider}
-unfoldable pub use Rattle.model.specs.AtMachine.{admitted, staying, joined, installs, granted, marked, unmarked, acquired, released, returned, arrives, atMachine}
+unfoldable pub use Rattle.model.specs.Asking.{mayJoin, asks, acquires, staysIf, releases}
+unfoldable pub use Rattle.model.specs.AtDecider.{toOwner, mayShare, decidesAcquire, decidesFree, decidesGrant, decides, atDecider}
+unfoldable pub use Rattle.model.specs.AtMachine.{joined, installs, granted, marked, unmarked, acquired, released, returned, arrives, atMachine}
 unfoldable pub use Rattle.model.specs.Calls.{delivers, acquireStep, releaseStep, takes, deliverStep}
 pub use Rattle.laws.specs.Tests.{pick-yes, pick-no}
 pub use Rattle.rules.specs.Plans.{finish-stuck, finish-full, plans-refusal, plans-effect, rest-fits}

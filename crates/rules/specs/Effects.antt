@@ -1,5 +1,5 @@
 -- What the code's effect means, and what carrying it out does to the wire's slots.
-use mathlib.Core.Path.{_≡_, refl, sym, ap, subst, _∙_}
+use mathlib.Core.Path.{_≡_, sym, ap, subst, _∙_}
 use mathlib.Core.List.{List, [], _∷_, _++_, append-nil, map}
 use Prim.Native.Nat.{ℕ, zero, suc, _+_, _<_, _≤_}
 use native.Mathlib.Omega.{arith}
@@ -9,7 +9,7 @@ use Rattle.rules.specs.declared.effect.Sends.{Sends}
 use Rattle.rules.specs.declared.effect.Effect.{Effect}
 use Rattle.rules.specs.Names.{Waiter, Packet, Wire}
 use Rattle.model.specs.Lists.{pick}
-use Rattle.model.specs.States.{waiters, wireOf, packets}
+use Rattle.model.specs.States.{waiters, wireCapacity, wireOf, packets}
 use Rattle.model.specs.Changes.{Verdict, cannot-place, does}
 use Rattle.model.specs.AtMachine.{grantOf}
 use Rattle.laws.specs.Shapes.{CanonicalWire, packets-of, canonical-wire, wire-whole, length-packets}
@@ -55,14 +55,14 @@ abbrev sentTo : Wire → Packet → Wire
 sentTo w p = record { slots = set (w .slots) (w .len) p; len = w .len + 1 }
 
 -- on a wire's slots that is sending them
-posted : (w : Wire) (ps : List Packet) → CanonicalWire w → w .len + length ps ≤ 33
+posted : (w : Wire) (ps : List Packet) → CanonicalWire w → w .len + length ps ≤ wireCapacity
     → record { slots = sets (w .slots) (w .len) ps; len = w .len + length ps } ≡ wireOf (packets w ++ ps)
 posted w [] h k = let e : w .len + 0 ≡ w .len = omega arith in rw (e, append-nil) (wire-whole w h)
 posted w (p ∷ ps) h k =
     let j : suc (w .len) ≡ w .len + 1 = omega arith in
     let n : w .len + suc (length ps) ≡ (w .len + 1) + length ps = omega arith in
     let e : sentTo w p ≡ wireOf (packets w ++ p ∷ []) = sent-at w p h (omega arith) in
-    let m : length (packets w ++ p ∷ []) ≤ 33 = simp length-append (omega (arith, length-packets w h)) in
+    let m : length (packets w ++ p ∷ []) ≤ wireCapacity = simp length-append (omega (arith, length-packets w h)) in
     let c : CanonicalWire (sentTo w p) = subst (λ (v : Wire). CanonicalWire v) (sym e) (canonical-wire (packets w ++ p ∷ []) m) in
     let g : packets (sentTo w p) ≡ packets w ++ p ∷ [] = ap packets e ∙ packets-of (packets w ++ p ∷ []) in
     rw (j, n) (posted (sentTo w p) ps c (omega arith) ∙ ap (λ (xs : List Packet). wireOf (xs ++ ps)) g ∙ ap wireOf (append-snoc (packets w) p ps))
@@ -72,7 +72,7 @@ used-slots : {A : Type 0} (n : ℕ) (xs : List A) → take (length (take n xs)) 
 used-slots {A = A} n xs = ap (λ (ys : List A). take (length (take n xs)) ys) (sym (take-append-drop n xs)) ∙ take-append-seam (take n xs) (drop n xs)
 
 -- the packets ps, then the GRANTs
-pub posted-both : (w : Wire) (ps : List Packet) (ws : List Waiter) (n k m : ℕ) → CanonicalWire w → w .len + length (ps ++ map grantOf (take n ws)) ≤ 33
+pub posted-both : (w : Wire) (ps : List Packet) (ws : List Waiter) (n k m : ℕ) → CanonicalWire w → w .len + length (ps ++ map grantOf (take n ws)) ≤ wireCapacity
     → length ps ≡ k → length (take n ws) ≡ m
     → record { slots = sets (sets (w .slots) (w .len) ps) (w .len + k) (map grantOf (take m ws)); len = w .len + k + m } ≡ wireOf (packets w ++ (ps ++ map grantOf (take n ws)))
 posted-both w ps ws n k m h r e f =

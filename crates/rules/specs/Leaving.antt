@@ -1,13 +1,13 @@
 -- The packet in which an agent leaves its machine.
 use mathlib.Core.Path.{_≡_, refl, ap, _∙_}
-use mathlib.Core.Bool.{Bool, false}
+use mathlib.Core.Bool.{Bool}
 use mathlib.Core.List.{List, [], _∷_}
 use Prim.Native.Nat.{_<_, _≤_}
 use native.Mathlib.Omega.{arith}
 use lib.ListN.{length, getD}
 use Rattle.rules.specs.Names.{Waiter, Queue, Agent, ToDecider, Free, Grant, Packet}
 use Rattle.model.specs.Lists.{removed}
-use Rattle.model.specs.States.{blankWaiter, waiters, seated}
+use Rattle.model.specs.States.{blankWaiter, waiters, carrying}
 use Rattle.model.specs.Asking.{changed, departing, handOver}
 use Rattle.laws.specs.Shapes.{CanonicalQueue, queue-whole, length-waiters}
 
@@ -28,10 +28,9 @@ hand-none a hs [] h = refl
 hand-none a hs (w ∷ ws) h = absurd (omega arith)
 
 abbrev freeing : Agent → List Bool → Queue → Packet
-freeing a hs q = record { message = Free; to = ToDecider; rejected = false; carried = seated (changed a hs q (a .incarnation)) }
+freeing a hs q = carrying Free ToDecider (changed a hs q (a .incarnation))
 
-pub frees : (a : Agent) (hs : List Bool) → CanonicalQueue (a .queue) → a .queue .len ≤ 0
-    → record { message = Free; to = ToDecider; rejected = false; carried = seated (changed a hs (a .queue) (a .incarnation)) } ≡ handOver a hs (waiters (a .queue))
+pub frees : (a : Agent) (hs : List Bool) → CanonicalQueue (a .queue) → a .queue .len ≤ 0 → freeing a hs (a .queue) ≡ handOver a hs (waiters (a .queue))
 frees a hs h k =
     ap (λ (q : Queue). freeing a hs q) (queue-whole (a .queue) h)
     ∙ hand-none a hs (waiters (a .queue)) (omega (arith, length-waiters (a .queue) h))

@@ -8,7 +8,7 @@ pub use Rattle.model.specs.declared.Owner.the-variants.{Free as Unowned, Owned}
 pub use Rattle.model.specs.declared.Waiter.{Waiter}
 pub use Rattle.model.specs.declared.Queue.{Queue}
 pub use Rattle.model.specs.declared.Agent.{Agent}
-pub use Rattle.model.specs.declared.Address.the-variants.{Decider as ToDecider, Machine as ToMachine}
+pub use Rattle.model.specs.declared.Address.the-variants.{Decider as ToDecider}
 pub use Rattle.model.specs.declared.Message.the-variants.{Free, Grant}
 pub use Rattle.model.specs.declared.Packet.{Packet}
 pub use Rattle.model.specs.declared.Wire.{Wire}

@@ -1,5 +1,5 @@
 -- What a plan leads to: the step that it plans.
-use mathlib.Core.Path.{_≡_, refl, sym, ap, _∙_}
+use mathlib.Core.Path.{_≡_, sym, ap, _∙_}
 use mathlib.Core.Bool.{true, false}
 use mathlib.Core.List.{List}
 use Prim.Native.Nat.{ℕ, _+_, _<_, _≤_}
@@ -11,7 +11,7 @@ use Rattle.rules.specs.declared.effect.Effect.{Effect}
 use Rattle.rules.specs.declared.plan.Plan.{Plan}
 use Rattle.rules.specs.Names.{MachineId, ClientId, Packet, Wire, LockState, Refusal, CannotPlace, WireFull, Answer, Accepted, Refused, Stepped}
 use Rattle.model.specs.Lists.{removed}
-use Rattle.model.specs.States.{wireOf, packets}
+use Rattle.model.specs.States.{wireCapacity, wireOf, packets}
 use Rattle.model.specs.Changes.{Verdict, cannot-place, does, apply, accepted, refused, finish}
 use Rattle.laws.specs.Tests.{pick-yes, pick-no}
 use Rattle.laws.specs.Shapes.{CanonicalWire, canonical-wire}
@@ -31,7 +31,7 @@ endsWith (Refused n) p s = refused n s
 -- p plans the step t on s
 pub record Plans (p : Plan) (s : LockState) (t : Stepped) : Type 0 where
   pub ends : endsWith (p .answer) p s ≡ t
-  pub fits : p .answer ≡ Accepted → length (leftBy p s) + length (sentBy (p .effect .sends)) ≤ 33
+  pub fits : p .answer ≡ Accepted → length (leftBy p s) + length (sentBy (p .effect .sends)) ≤ wireCapacity
 
 module _ {p : Plan} {s : LockState} {t : Stepped} (h : Plans p s t) where
   pub plan-accepts : p .answer ≡ Accepted → accepted (carriedOut p s) ≡ t
@@ -56,24 +56,24 @@ module _ (k : MachineId) (c : ClientId) (e : Effect) (rest : List Packet) (s : L
   finish-stuck p = sym (ap (λ (v : Verdict). finish k c v rest s) (pick-no (does (e .site) (sentBy (e .sends))) p))
 
   module _ (p : e .placed ≡ true) where
-    pub finish-full : 33 < length rest + length (sentBy (e .sends)) → refused WireFull s ≡ finish k c (verdictOf e) rest s
+    pub finish-full : wireCapacity < length rest + length (sentBy (e .sends)) → refused WireFull s ≡ finish k c (verdictOf e) rest s
     unfolding finish verdictOf
     finish-full h =
-        let f : leb (length rest + length (sentBy (e .sends))) 33 ≡ false = lt-leb (length rest + length (sentBy (e .sends))) 33 h in
+        let f : leb (length rest + length (sentBy (e .sends))) wireCapacity ≡ false = lt-leb (length rest + length (sentBy (e .sends))) wireCapacity h in
         sym (ap (λ (v : Verdict). finish k c v rest s) (pick-yes cannot-place p) ∙ pick-no (accepted (apply k c (e .site) (sentBy (e .sends)) rest s)) f)
 
-    finish-fits : length rest + length (sentBy (e .sends)) ≤ 33 → accepted (apply k c (e .site) (sentBy (e .sends)) rest s) ≡ finish k c (verdictOf e) rest s
+    finish-fits : length rest + length (sentBy (e .sends)) ≤ wireCapacity → accepted (apply k c (e .site) (sentBy (e .sends)) rest s) ≡ finish k c (verdictOf e) rest s
     unfolding finish verdictOf
     finish-fits h =
-        let f : leb (length rest + length (sentBy (e .sends))) 33 ≡ true = le-leb (length rest + length (sentBy (e .sends))) 33 h in
+        let f : leb (length rest + length (sentBy (e .sends))) wireCapacity ≡ true = le-leb (length rest + length (sentBy (e .sends))) wireCapacity h in
         sym (ap (λ (v : Verdict). finish k c v rest s) (pick-yes cannot-place p) ∙ pick-yes (refused WireFull s) f)
 
-pub plans-effect : (k : MachineId) (c : ClientId) (e : Effect) (i : ℕ) (s : LockState) → e .placed ≡ true → length (removed (packets (s .wire)) i) + length (sentBy (e .sends)) ≤ 33
+pub plans-effect : (k : MachineId) (c : ClientId) (e : Effect) (i : ℕ) (s : LockState) → e .placed ≡ true → length (removed (packets (s .wire)) i) + length (sentBy (e .sends)) ≤ wireCapacity
     → Plans (record { answer = Accepted; index = i; machine = k; client = c; effect = e }) s (finish k c (verdictOf e) (removed (packets (s .wire)) i) s)
 unfolding endsWith
 plans-effect k c e i s p h = record { ends = finish-fits k c e (removed (packets (s .wire)) i) s p h; fits = λ q. h }
 
 -- ---- the wire without the packet taken off has room for those sent
-pub rest-fits : (w : Wire) (ps : List Packet) (k : ℕ) → w ≡ wireOf ps → length ps + k ≤ 33 → (CanonicalWire w) × (w .len + k ≤ 33)
+pub rest-fits : (w : Wire) (ps : List Packet) (k : ℕ) → w ≡ wireOf ps → length ps + k ≤ wireCapacity → (CanonicalWire w) × (w .len + k ≤ wireCapacity)
 unfolding wireOf
 rest-fits w ps k e h = rw e (canonical-wire ps (omega arith), h)

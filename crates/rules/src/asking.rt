@@ -15,8 +15,8 @@ use model::Status;
 use model::Waiter;
 use parts::blank::plain_packet;
 use parts::blank::seat;
+use parts::holders::is_shared;
 use parts::holders::join;
-use parts::holders::may_join;
 use parts::queue::no_room;
 use parts::queue::push;
 ghost use mathlib.Core.Path.{_≡_};
@@ -24,10 +24,20 @@ ghost use mathlib.Core.Bool.{true, false};
 ghost use mathlib.Core.List.{[]};
 ghost use Rattle.model.specs.States.{seated};
 ghost use Rattle.model.specs.Changes.{withSlot, withStatus, does};
-ghost use Rattle.model.specs.Asking.{queuing, withRoom, asks, acquires};
+ghost use Rattle.model.specs.Asking.{queuing, withRoom, mayJoin, asks, acquires};
 ghost use Rattle.laws.specs.Shapes.{CanonicalQueue};
 ghost use Rattle.rules.specs.Names.{Waiting};
 ghost use Rattle.rules.specs.Effects.{verdictOf};
+
+// A request may join the holders of the site's agent: agent and request are both shared.
+pub fn may_join(v: Site, m: Mode) -> bool
+    ensures { λ r. ⌜ r ≡ mayJoin v m ⌝ }
+{
+    let x = v.slot;
+    let a = x.agent;
+    let n = a.mode;
+    if is_shared(n) { is_shared(m) } else { false }
+}
 
 // The client joins the end of the queue of its machine's agent.
 pub fn wait_here(v: Site, mut a: Agent, c: ClientId, m: Mode) -> Effect
@@ -47,7 +57,7 @@ pub fn ask_agent(v: Site, a: Agent, c: ClientId, m: Mode) -> Effect
     requires { ⌜ CanonicalQueue (a .queue) ⌝ }
     ensures { λ r. ⌜ verdictOf r ≡ asks v c m true a ⌝ }
 {
-    if may_join(a, m) {
+    if may_join(v, m) {
         let x = seat(join(a, c));
         seating_telling(v, x, Status::Holding(m), no_packet())
     } else {

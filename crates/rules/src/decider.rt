@@ -17,63 +17,39 @@ use model::Mode;
 use model::Owner;
 use model::Packet;
 use model::Site;
+use parts::blank::carrying;
 use parts::blank::new_agent;
 use parts::blank::plain_packet;
-use parts::blank::seat;
+use parts::blank::resent;
 use parts::holders::is_shared;
 ghost use mathlib.Core.Path.{_≡_};
-ghost use mathlib.Core.Bool.{Bool, true, false, _&&_};
-ghost use mathlib.Core.List.{List, [], _∷_};
+ghost use mathlib.Core.Bool.{true, false};
 ghost use lib.Dec.{eqb};
-ghost use Rattle.model.specs.States.{machineOf, isShared};
-ghost use Rattle.model.specs.AtDecider.{sentOn, toOwner, granting, grantsFirst, shares, decidesAcquire, decidesFree, decidesGrant, decides, atDecider};
+ghost use Rattle.model.specs.AtDecider.{sentOn, toOwner, grantsWith, grantsFirst, mayShare, shares, rejectedTo, decidesAcquire, decidesFree, decidesGrant, decides, atDecider};
 ghost use Rattle.rules.specs.Effects.{verdictOf};
-ghost use Rattle.rules.specs.Deciding.{rejectedTo, passing};
 
-pub fn both_shared(m: Mode, n: Mode) -> bool
-    ensures { λ r. ⌜ r ≡ isShared m && isShared n ⌝ }
+// The decider may grant the request beside the holders: lock and request are both shared.
+pub fn may_share(v: Site, m: Mode) -> bool
+    ensures { λ r. ⌜ r ≡ mayShare v m ⌝ }
 {
-    if is_shared(m) { is_shared(n) } else { false }
+    let d = v.decider;
+    let o = d.owner;
+    match o {
+        Owner::Free => false,
+        Owner::Owned(n, _) => { if is_shared(n) { is_shared(m) } else { false } }
+    }
 }
 
-pub fn sent_on(p: Packet, k: MachineId) -> Packet
+fn sent_on(p: Packet, k: MachineId) -> Packet
     ensures { λ r. ⌜ r ≡ sentOn p k ⌝ }
 {
-    let m = p.message;
-    let x = p.carried;
-    Packet {
-        message: m,
-        to: Address::Machine(k),
-        rejected: p.rejected,
-        carried: x,
-    }
+    resent(p, Address::Machine(k), p.rejected)
 }
 
-pub fn rejected_to(p: Packet, k: MachineId) -> Packet
+fn rejected_to(p: Packet, k: MachineId) -> Packet
     ensures { λ r. ⌜ r ≡ rejectedTo p k ⌝ }
 {
-    let m = p.message;
-    let x = p.carried;
-    Packet {
-        message: m,
-        to: Address::Machine(k),
-        rejected: true,
-        carried: x,
-    }
-}
-
-// A GRANT with its agent, to its client's machine.
-pub fn grant_with(c: ClientId, m: Mode, a: Agent) -> Packet
-    ensures { λ r. ⌜ r ≡ granting c m a ⌝ }
-{
-    let k = machine_of(c);
-    let x = seat(a);
-    Packet {
-        message: Message::Grant { client: c, mode: m },
-        to: Address::Machine(k),
-        rejected: false,
-        carried: x,
-    }
+    resent(p, Address::Machine(k), true)
 }
 
 pub fn to_owner(o: Owner, v: Site, p: Packet) -> Effect
@@ -86,21 +62,26 @@ pub fn to_owner(o: Owner, v: Site, p: Packet) -> Effect
 }
 
 // The client's machine becomes the owner, and gets the agent a with the GRANT.
-pub fn pass_agent(v: Site, c: ClientId, m: Mode, a: Agent) -> Effect
-    ensures { λ r. ⌜ verdictOf r ≡ passing v c m a ⌝ }
+pub fn grants_with(v: Site, c: ClientId, m: Mode, a: Agent) -> Effect
+    ensures { λ r. ⌜ verdictOf r ≡ grantsWith v c m a ⌝ }
 {
     let k = machine_of(c);
     let d = Decider {
         owner: Owner::Owned(m, k),
         incarnation: 0,
     };
-    deciding(v, d, one_packet(grant_with(c, m, a)))
+    let p = carrying(
+        Message::Grant { client: c, mode: m },
+        Address::Machine(k),
+        a,
+    );
+    deciding(v, d, one_packet(p))
 }
 
 pub fn grants_first(v: Site, c: ClientId, m: Mode) -> Effect
     ensures { λ r. ⌜ verdictOf r ≡ grantsFirst v c m ⌝ }
 {
-    pass_agent(v, c, m, new_agent(m))
+    grants_with(v, c, m, new_agent(m))
 }
 
 // The GRANT goes out before the marked ACQUIRE.
@@ -147,11 +128,11 @@ pub fn decides_unmarked(o: Owner, v: Site, p: Packet, c: ClientId, m: Mode) -> E
 {
     match o {
         Owner::Free => grants_first(v, c, m),
-        Owner::Owned(n, k) => {
-            if both_shared(n, m) {
+        Owner::Owned(_, k) => {
+            if may_share(v, m) {
                 shares(v, c, k)
             } else {
-                sending(v, sent_on(p, k))
+                to_owner(o, v, p)
             }
         }
     }
@@ -194,7 +175,7 @@ pub fn decides_agent(o: Owner, v: Site, p: Packet, c: ClientId, m: Mode) -> Effe
                 let x = p.carried;
                 let mut a = x.agent;
                 a.incarnation = 0;
-                pass_agent(v, c, m, a)
+                grants_with(v, c, m, a)
             } else {
                 sending(v, rejected_to(p, k))
             }

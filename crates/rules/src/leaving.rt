@@ -7,12 +7,15 @@ use crate::effect::sending;
 use model::Address;
 use model::Agent;
 use model::AgentSlot;
+use model::CLIENTS;
 use model::ClientId;
 use model::MachineId;
 use model::Message;
 use model::Packet;
 use model::Site;
 use model::Status;
+use model::TASKS;
+use parts::blank::carrying;
 use parts::blank::no_agent;
 use parts::blank::plain_packet;
 use parts::blank::seat;
@@ -22,28 +25,13 @@ use parts::holders::set_holder;
 use parts::queue::first;
 use parts::queue::pop;
 ghost use mathlib.Core.Path.{_≡_};
-ghost use mathlib.Core.Bool.{false};
-ghost use Rattle.model.specs.States.{waiters, seated, machineOf};
+ghost use Rattle.model.specs.States.{waiters, machineOf};
 ghost use Rattle.model.specs.Asking.{handOver, leaves, lists, releases};
 ghost use Rattle.laws.specs.Shapes.{CanonicalQueue};
-ghost use Rattle.rules.specs.Names.{ToDecider};
 ghost use Rattle.rules.specs.Effects.{verdictOf};
 
-// The agent inside a packet to the decider.
-pub fn carry(m: Message, a: Agent) -> Packet
-    ensures { λ r. ⌜ r ≡ record { message = m; to = ToDecider; rejected = false; carried = seated a } ⌝ }
-{
-    let x = seat(a);
-    Packet {
-        message: m,
-        to: Address::Decider,
-        rejected: false,
-        carried: x,
-    }
-}
-
 // The packet in which the agent goes, with the holders hs: a FREE, or a GRANT for the first waiter.
-pub fn hand_over(mut a: Agent, hs: [bool; 16]) -> Packet
+pub fn hand_over(mut a: Agent, hs: [bool; CLIENTS]) -> Packet
     requires { ⌜ CanonicalQueue (a .queue) ⌝ }
     ensures { λ r. ⌜ r ≡ handOver a hs (waiters (a .queue)) ⌝ }
 {
@@ -54,9 +42,9 @@ pub fn hand_over(mut a: Agent, hs: [bool; 16]) -> Packet
         a.queue = pop(q);
         let c = w.client;
         let m = w.mode;
-        carry(Message::Grant { client: c, mode: m }, a)
+        carrying(Message::Grant { client: c, mode: m }, Address::Decider, a)
     } else {
-        carry(Message::Free, a)
+        carrying(Message::Free, Address::Decider, a)
     }
 }
 
@@ -88,7 +76,7 @@ pub fn listed(x: AgentSlot, c: ClientId) -> bool
 pub fn machine_of(c: ClientId) -> MachineId
     ensures { λ r. ⌜ r ≡ machineOf c ⌝ }
 {
-    MachineId(c.0 / 4)
+    MachineId(c.0 / TASKS as u8)
 }
 
 // A client that holds releases.

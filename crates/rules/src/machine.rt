@@ -1,4 +1,5 @@
 // Deliveries at a machine. v is the site.
+use crate::asking::may_join;
 use crate::effect::Effect;
 use crate::effect::cannot_place;
 use crate::effect::grants_to;
@@ -13,49 +14,50 @@ use crate::leaving::listed;
 use model::Address;
 use model::Agent;
 use model::AgentSlot;
+use model::CLIENTS;
 use model::ClientId;
 use model::Message;
 use model::Mode;
 use model::Packet;
+use model::QUEUE_CAPACITY;
 use model::Queue;
 use model::Site;
 use model::Status;
 use model::Waiter;
 use parts::blank::empty_queue;
 use parts::blank::plain_packet;
+use parts::blank::resent;
 use parts::blank::seat;
 use parts::holders::is_shared;
 use parts::holders::join;
-use parts::holders::may_join;
 use parts::holders::set_holder;
 use parts::queue::no_room;
 use parts::queue::push;
 use parts::queue::push_front;
 ghost use mathlib.Core.Path.{_≡_};
-ghost use mathlib.Core.Bool.{true, false};
-ghost use mathlib.Core.List.{[], _∷_};
+ghost use mathlib.Core.List.{[]};
 ghost use Prim.Native.Nat.{_≤_};
 ghost use lib.ListN.{take};
-ghost use Rattle.model.specs.States.{queueOf, waiters, seated};
+ghost use Rattle.model.specs.States.{queueCapacity, waiters, seated};
 ghost use Rattle.model.specs.Changes.{withSlot, does};
 ghost use Rattle.model.specs.Asking.{queuing, withRoom};
-ghost use Rattle.model.specs.AtMachine.{bounced, ofMode, joined, installs, requeued, granted, marked, unmarked, acquired, released, returned, arrives, atMachine};
+ghost use Rattle.model.specs.AtMachine.{sentBack, installs, requeued, granted, marked, unmarked, acquired, released, returned, arrives, atMachine};
 ghost use Rattle.laws.specs.Shapes.{CanonicalQueue};
 ghost use Rattle.rules.specs.Names.{Exclusive, Shared};
 ghost use Rattle.rules.specs.Effects.{verdictOf};
-ghost use Rattle.rules.specs.Admits.{admits, Room};
+ghost use Rattle.rules.specs.Admits.{Room, admitsOne, admits, admission};
 
-// A queue's waiters, one after the other: the holders with those who joined, who stays in the queue, and who left it.
-pub struct Round {
-    pub holders: [bool; 16],
-    pub kept: Queue,
+// A shared agent is installed, and its queue's waiters are gone through: the holders with those who joined, who stays in the queue, who left it.
+pub struct Admission {
+    pub holders: [bool; CLIENTS],
+    pub staying: Queue,
     pub admitted: Queue,
 }
 
 // A shared waiter joins the holders; another stays.
-pub fn admit(mut t: Round, w: Waiter) -> Round
-    requires { ⌜ Room t (w ∷ []) ⌝ }
-    ensures { λ r. ⌜ r ≡ admits t (w ∷ []) ⌝ }
+pub fn admit(mut t: Admission, w: Waiter) -> Admission
+    requires { ⌜ Room t 1 ⌝ }
+    ensures { λ r. ⌜ r ≡ admitsOne t w ⌝ }
 {
     let m = w.mode;
     if is_shared(m) {
@@ -67,14 +69,14 @@ pub fn admit(mut t: Round, w: Waiter) -> Round
         t.admitted = q;
         t
     } else {
-        let q = push(t.kept, w);
-        t.kept = q;
+        let q = push(t.staying, w);
+        t.staying = q;
         t
     }
 }
 
-pub fn admit_all(s: Round, a: [Waiter; 16], n: usize) -> Round
-    requires { ⌜ (n ≤ 16) × (Room s (take n a)) ⌝ }
+pub fn admit_all(s: Admission, a: [Waiter; QUEUE_CAPACITY], n: usize) -> Admission
+    requires { ⌜ (n ≤ queueCapacity) × (Room s n) ⌝ }
     ensures { λ r. ⌜ r ≡ admits s (take n a) ⌝ }
 {
     let mut t = s;
@@ -87,16 +89,16 @@ pub fn admit_all(s: Round, a: [Waiter; 16], n: usize) -> Round
     t
 }
 
-// The round of a queue, from the holders g on.
-pub fn admit_queue(g: [bool; 16], q: Queue) -> Round
+// The waiters of q, from the holders g on.
+pub fn admit_queue(g: [bool; CLIENTS], q: Queue) -> Admission
     requires { ⌜ CanonicalQueue q ⌝ }
-    ensures { λ r. ⌜ r ≡ record { holders = joined g (ofMode true (waiters q)); kept = queueOf (ofMode false (waiters q)); admitted = queueOf (ofMode true (waiters q)) } ⌝ }
+    ensures { λ r. ⌜ r ≡ admission g (waiters q) ⌝ }
 {
     let e = empty_queue();
     let slots = q.slots;
-    let t = Round {
+    let t = Admission {
         holders: g,
-        kept: e,
+        staying: e,
         admitted: e,
     };
     admit_all(t, slots, q.len as usize)
@@ -109,11 +111,11 @@ pub fn install_shared(v: Site, c: ClientId, a: Agent) -> Effect
     let h = a.holders;
     let r = admit_queue(set_holder(h, c, true), a.queue);
     let hs = r.holders;
-    let kept = r.kept;
+    let q = r.staying;
     let b = Agent {
         mode: Mode::Shared,
         holders: hs,
-        queue: kept,
+        queue: q,
         incarnation: a.incarnation,
     };
     let t = grants_to(r.admitted);
@@ -174,17 +176,10 @@ pub fn queue_first(v: Site, mut a: Agent, c: ClientId, m: Mode) -> Effect
 }
 
 // The packet as it goes back to the decider.
-pub fn bounce(p: Packet) -> Packet
-    ensures { λ r. ⌜ r ≡ bounced p ⌝ }
+fn sent_back(p: Packet) -> Packet
+    ensures { λ r. ⌜ r ≡ sentBack p ⌝ }
 {
-    let m = p.message;
-    let x = p.carried;
-    Packet {
-        message: m,
-        to: Address::Decider,
-        rejected: p.rejected,
-        carried: x,
-    }
+    resent(p, Address::Decider, p.rejected)
 }
 
 // here: an agent is on the machine; x: the agent carried, or none.
@@ -230,7 +225,7 @@ pub fn unmarked_arrives(v: Site, a: Agent, c: ClientId, m: Mode) -> Effect
     requires { ⌜ CanonicalQueue (a .queue) ⌝ }
     ensures { λ r. ⌜ verdictOf r ≡ unmarked v a c m ⌝ }
 {
-    if may_join(a, m) {
+    if may_join(v, m) {
         let x = seat(join(a, c));
         let p = plain_packet(Message::Grant { client: c, mode: m }, Address::Decider);
         seating(v, x, one_packet(p))
@@ -251,7 +246,7 @@ pub fn acquire_arrives(v: Site, p: Packet, c: ClientId, m: Mode, granted: bool) 
             unmarked_arrives(v, x.agent, c, m)
         }
     } else {
-        sending(v, bounce(p))
+        sending(v, sent_back(p))
     }
 }
 
@@ -263,7 +258,7 @@ pub fn release_arrives(v: Site, p: Packet, c: ClientId) -> Effect
     if listed(x, c) {
         leave(v, x.agent, c)
     } else {
-        sending(v, bounce(p))
+        sending(v, sent_back(p))
     }
 }
 

@@ -11,7 +11,9 @@ use model::MachineId;
 use model::Message;
 use model::Mode;
 use model::Packet;
+use model::QUEUE_CAPACITY;
 use model::Refusal;
+use model::WIRE_CAPACITY;
 use model::Waiter;
 use model::Wire;
 use parts::blank::plain_packet;
@@ -24,12 +26,14 @@ ghost use Prim.Native.Nat.{_+_, _≤_};
 ghost use lib.ListN.{length, take};
 ghost use lib.Seq.{sets};
 ghost use Rattle.model.specs.Lists.{removed};
-ghost use Rattle.model.specs.States.{wireOf, packets};
+ghost use Rattle.model.specs.States.{queueCapacity, wireCapacity, wireOf, packets};
 ghost use Rattle.model.specs.Changes.{apply, refused, finish};
 ghost use Rattle.model.specs.AtMachine.{grantOf};
 ghost use Rattle.laws.specs.Shapes.{CanonicalWire};
 ghost use Rattle.rules.specs.Effects.{sentBy, verdictOf};
 ghost use Rattle.rules.specs.Plans.{leftBy, carriedOut, Plans};
+
+type Slots = [Packet; WIRE_CAPACITY];
 
 // How many of two packets a count means.
 fn of_two(n: u8) -> u8
@@ -39,14 +43,18 @@ fn of_two(n: u8) -> u8
 }
 
 // How many of the slots a length means.
-fn of_slots(a: [Waiter; 16], n: u8) -> u8
-    ensures { λ r. ⌜ (r ≤ 16) × (length (take n a) ≡ r) ⌝ }
+fn of_slots(a: [Waiter; QUEUE_CAPACITY], n: u8) -> u8
+    ensures { λ r. ⌜ (r ≤ queueCapacity) × (length (take n a) ≡ r) ⌝ }
 {
-    if n < 16 { n } else { 16 }
+    if n < QUEUE_CAPACITY as u8 {
+        n
+    } else {
+        QUEUE_CAPACITY as u8
+    }
 }
 
-fn lay_packets(a: [Packet; 33], n: usize, k: u8, p: Packet, q: Packet) -> [Packet; 33]
-    requires { ⌜ n + length (take k (p ∷ q ∷ [])) ≤ 33 ⌝ }
+fn lay_packets(a: Slots, n: usize, k: u8, p: Packet, q: Packet) -> Slots
+    requires { ⌜ n + length (take k (p ∷ q ∷ [])) ≤ wireCapacity ⌝ }
     ensures { λ r. ⌜ r ≡ sets a n (take k (p ∷ q ∷ [])) ⌝ }
 {
     let mut b = a;
@@ -59,8 +67,8 @@ fn lay_packets(a: [Packet; 33], n: usize, k: u8, p: Packet, q: Packet) -> [Packe
     b
 }
 
-fn lay_grants(a: [Packet; 33], n: usize, ws: [Waiter; 16], m: usize) -> [Packet; 33]
-    requires { ⌜ (m ≤ 16) × (n + m ≤ 33) ⌝ }
+fn lay_grants(a: Slots, n: usize, ws: [Waiter; QUEUE_CAPACITY], m: usize) -> Slots
+    requires { ⌜ (m ≤ queueCapacity) × (n + m ≤ wireCapacity) ⌝ }
     ensures { λ r. ⌜ r ≡ sets a n (map grantOf (take m ws)) ⌝ }
 {
     let mut b = a;
@@ -81,7 +89,7 @@ fn lay_grants(a: [Packet; 33], n: usize, ws: [Waiter; 16], m: usize) -> [Packet;
 }
 
 fn sent_count(t: Sends) -> u8
-    ensures { λ r. ⌜ (r ≤ 18) × (length (sentBy t) ≡ r) ⌝ }
+    ensures { λ r. ⌜ (r ≤ 2 + queueCapacity) × (length (sentBy t) ≡ r) ⌝ }
 {
     let q = t.admitted;
     let ws = q.slots;
@@ -90,7 +98,7 @@ fn sent_count(t: Sends) -> u8
 
 // The packets go to the wire's end.
 fn post(w: Wire, t: Sends) -> Wire
-    requires { ⌜ (CanonicalWire w) × (w .len + length (sentBy t) ≤ 33) ⌝ }
+    requires { ⌜ (CanonicalWire w) × (w .len + length (sentBy t) ≤ wireCapacity) ⌝ }
     ensures { λ r. ⌜ r ≡ wireOf (packets w ++ sentBy t) ⌝ }
 {
     let a = w.slots;
@@ -108,7 +116,7 @@ fn post(w: Wire, t: Sends) -> Wire
 }
 
 fn apply(k: MachineId, u: ClientId, e: Effect, rest: Wire, s: LockState) -> LockState
-    requires { ⌜ (CanonicalWire rest) × (rest .len + length (sentBy (e .sends)) ≤ 33) ⌝ }
+    requires { ⌜ (CanonicalWire rest) × (rest .len + length (sentBy (e .sends)) ≤ wireCapacity) ⌝ }
     ensures { λ r. ⌜ r ≡ apply k u (e .site) (sentBy (e .sends)) (packets rest) s ⌝ }
 {
     let v = e.site;
@@ -127,8 +135,7 @@ fn apply(k: MachineId, u: ClientId, e: Effect, rest: Wire, s: LockState) -> Lock
     }
 }
 
-// A step before it is made: its answer and, where that accepts, the index of the packet that it takes off the wire, the machine and the client that it is about, and its effect. An index past the
-// wire's end takes none off.
+// A step before it is made: its answer and, where that accepts, the index of the packet that it takes off the wire, the machine and the client that it is about, and its effect.
 pub struct Plan {
     pub answer: Answer,
     pub index: u8,
@@ -137,14 +144,17 @@ pub struct Plan {
     pub effect: Effect,
 }
 
+// An index past the wire's end: no packet is taken off.
+pub const NONE_OFF: u8 = WIRE_CAPACITY as u8;
+
 // Refusals 9 and 10; n packets stay on the wire.
 pub fn judge(k: MachineId, u: ClientId, e: Effect, i: u8, n: u8) -> Plan
-    requires { ⌜ n ≤ 33 ⌝ }
+    requires { ⌜ n ≤ wireCapacity ⌝ }
     ensures { λ r. ⌜ ((s : LockState) → length (removed (packets (s .wire)) i) ≡ n → Plans r s (finish k u (verdictOf e) (removed (packets (s .wire)) i) s)) ⌝ }
 {
     if e.placed {
         let m = sent_count(e.sends);
-        if n + m <= 33 {
+        if n + m <= WIRE_CAPACITY as u8 {
             Plan {
                 answer: Answer::Accepted,
                 index: i,
@@ -166,7 +176,7 @@ pub fn refuse(n: Refusal) -> Plan
     let e = cannot_place();
     Plan {
         answer: Answer::Refused(n),
-        index: 33,
+        index: NONE_OFF,
         machine: MachineId(0),
         client: ClientId(0),
         effect: e,
@@ -175,7 +185,7 @@ pub fn refuse(n: Refusal) -> Plan
 
 // An accepted step is made.
 pub fn carry_out(p: Plan, s: LockState) -> LockState
-    requires { ⌜ (CanonicalWire (s .wire)) × (length (leftBy p s) + length (sentBy (p .effect .sends)) ≤ 33) ⌝ }
+    requires { ⌜ (CanonicalWire (s .wire)) × (length (leftBy p s) + length (sentBy (p .effect .sends)) ≤ wireCapacity) ⌝ }
     ensures { λ r. ⌜ r ≡ carriedOut p s ⌝ }
 {
     apply(p.machine, p.client, p.effect, take_off(s.wire, p.index), s)

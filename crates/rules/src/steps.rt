@@ -5,6 +5,7 @@ use crate::effect::Effect;
 use crate::leaving::machine_of;
 use crate::leaving::release;
 use crate::machine::at_machine;
+use crate::plan::NONE_OFF;
 use crate::plan::Plan;
 use crate::plan::judge;
 use model::Address;
@@ -50,7 +51,7 @@ pub fn plan_acquire(s: LockState, c: ClientId, m: Mode) -> Plan
     let k = machine_of(c);
     let v = site_of(s, k, c);
     let e = acquire(v, c, m);
-    judge(k, c, e, 33, s.wire.len)
+    judge(k, c, e, NONE_OFF, s.wire.len)
 }
 
 // A client that holds releases.
@@ -61,7 +62,7 @@ pub fn plan_release(s: LockState, c: ClientId) -> Plan
     let k = machine_of(c);
     let v = site_of(s, k, c);
     let e = release(v, c);
-    judge(k, c, e, 33, s.wire.len)
+    judge(k, c, e, NONE_OFF, s.wire.len)
 }
 
 // The machine and the client that a delivery is about.

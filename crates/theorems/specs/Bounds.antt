@@ -6,9 +6,14 @@ use mathlib.Core.List.{List, [], _∷_}
 use Prim.Native.Nat.{ℕ}
 use lib.ListN.{set, replicate}
 use Rattle.model.specs.Lists.{any, all, padded}
-use Rattle.theorems.specs.Names.{MachineId, ClientId, Exclusive, Shared, Unowned, Owned, Waiter, Queue, AgentSlot, Address, ToDecider, ToMachine, Message, Free, Acquire, Grant, Release, Packet, Wire, LockState}
+use Rattle.theorems.specs.Names.{MachineId, ClientId, Exclusive, Shared, Unowned, Owned, Waiter, Queue, AgentSlot, Address, ToDecider, ToMachine, Message, Free, Acquire, Grant, Release, Packet, Wire, LockState, machines, clients, plain, carrying, inParts, Owner, _+_, locks, tasks, queueCapacity, wireCapacity}
 use Rattle.model.specs.States.{queueOf, newAgent, seated, noAgent, idle, blankWaiter, blankPacket, wireOf, noHolders}
+use Rattle.model.specs.Drain.{allowance}
 use Rattle.model.specs.WellFormed.{shaped, isBlankWaiter, distinct, queueFormed, agentFormed, isBlankAgent, slotFormed, messageFormed, packetFormed, isBlankPacket, wireFormed, lockFormed}
+
+-- Document 01's numbers. Everything else goes by their names.
+pub sizes-are : (locks ≡ 8) × (machines ≡ 4) × (tasks ≡ 4) × (clients ≡ 16) × (queueCapacity ≡ 16) × (wireCapacity ≡ 33) × (allowance ≡ 16384)
+sizes-are = (refl, refl, refl, refl, refl, refl, refl)
 
 -- a well-formed state, and one that differs from it in one bound
 pub record Bound : Type 0 where
@@ -22,12 +27,18 @@ machine k = record { 0 = k }
 abbrev client : ℕ → ClientId
 client c = record { 0 = c }
 
+abbrev state : Owner → List AgentSlot → Wire → LockState
+state o xs w = record { decider = record { owner = o; incarnation = 0 }; agents = xs; clients = replicate clients idle; wire = w }
+
+abbrev nowhere : List AgentSlot
+nowhere = replicate machines noAgent
+
 abbrev ownedBy : ℕ → LockState
-ownedBy k = record { decider = record { owner = Owned Shared (machine k); incarnation = 0 }; agents = replicate 4 noAgent; clients = replicate 16 idle; wire = wireOf [] }
+ownedBy k = state (Owned Shared (machine k)) nowhere (wireOf [])
 
 -- machine 0 has this slot
 abbrev slot0 : AgentSlot → LockState
-slot0 x = record { decider = record { owner = Owned Shared (machine 0); incarnation = 0 }; agents = set (replicate 4 noAgent) 0 x; clients = replicate 16 idle; wire = wireOf [] }
+slot0 x = state (Owned Shared (machine 0)) (set nowhere 0 x) (wireOf [])
 
 abbrev queued : Queue → LockState
 queued q = slot0 (seated (record { mode = Exclusive; holders = noHolders; queue = q; incarnation = 0 }))
@@ -36,7 +47,7 @@ abbrev waits : ℕ → Waiter
 waits c = record { client = client c; mode = Shared }
 
 abbrev onWire : Wire → LockState
-onWire w = record { decider = record { owner = Unowned; incarnation = 0 }; agents = replicate 4 noAgent; clients = replicate 16 idle; wire = w }
+onWire w = state Unowned nowhere w
 
 abbrev sent : Packet → LockState
 sent p = onWire (wireOf (p ∷ []))
@@ -46,7 +57,7 @@ carried = seated (newAgent Shared)
 
 -- a packet: message, address, rejected, what it carries
 abbrev framed : Message → Address → Bool → AgentSlot → LockState
-framed m t b x = sent (record { message = m; to = t; rejected = b; carried = x })
+framed m t b x = sent (inParts m t b (x .present) (carrying m t (x .agent)))
 
 abbrev acquire : ℕ → Message
 acquire c = Acquire (client c) Shared false
@@ -74,10 +85,10 @@ bounds =
     ∷ bound (framed (Release (client 15)) ToDecider false noAgent) (framed (Release (client 16)) ToDecider false noAgent)
     ∷ bound (queued (queueOf (waits 15 ∷ []))) (queued (queueOf (waits 16 ∷ [])))
     -- a queue of at most 16 waiters, no client twice
-    ∷ bound (queued (record { slots = replicate 16 blankWaiter; len = 0 })) (queued (record { slots = replicate 16 blankWaiter; len = 17 }))
+    ∷ bound (queued (record { slots = replicate queueCapacity blankWaiter; len = 0 })) (queued (record { slots = replicate queueCapacity blankWaiter; len = queueCapacity + 1 }))
     ∷ bound (queued (queueOf (waits 1 ∷ waits 2 ∷ []))) (queued (queueOf (waits 1 ∷ waits 1 ∷ [])))
     -- the wire: at most 33 packets
-    ∷ bound (onWire (record { slots = replicate 33 blankPacket; len = 0 })) (onWire (record { slots = replicate 33 blankPacket; len = 34 }))
+    ∷ bound (onWire (record { slots = replicate wireCapacity blankPacket; len = 0 })) (onWire (record { slots = replicate wireCapacity blankPacket; len = wireCapacity + 1 }))
     -- FREE always carries an agent, GRANT sometimes, the others never
     ∷ bound (framed Free ToDecider false carried) (framed Free ToDecider false noAgent)
     ∷ bound (framed (acquire 0) ToDecider false noAgent) (framed (acquire 0) ToDecider false carried)
@@ -91,8 +102,8 @@ bounds =
     -- an unmarked FREE is addressed to the decider
     ∷ bound (framed Free ToDecider false carried) (framed Free away false carried)
     -- what is unused is blank: a queue's slot, a wire's, the agent of a machine and of a packet that have none
-    ∷ bound (queued (queueOf [])) (queued (record { slots = padded 16 blankWaiter (waits 0 ∷ []); len = 0 }))
-    ∷ bound (onWire (wireOf [])) (onWire (record { slots = padded 33 blankPacket (record { message = acquire 0; to = ToDecider; rejected = false; carried = noAgent } ∷ []); len = 0 }))
+    ∷ bound (queued (queueOf [])) (queued (record { slots = padded queueCapacity blankWaiter (waits 0 ∷ []); len = 0 }))
+    ∷ bound (onWire (wireOf [])) (onWire (record { slots = padded wireCapacity blankPacket (plain (acquire 0) ToDecider ∷ []); len = 0 }))
     ∷ bound (slot0 noAgent) (slot0 dirty)
     ∷ bound (framed (acquire 0) ToDecider false noAgent) (framed (acquire 0) ToDecider false dirty)
     ∷ []

@@ -1,7 +1,7 @@
 -- How far a lock's packets are from a step that lowers the work. Hops: the deliveries of a packet before the one that takes it; 3 where
--- it is not known to be taken. A packet at index i with h hops is at the distance i + 33 · h.
+-- it is not known to be taken. A packet at index i with h hops is at the distance i + wireCapacity · h.
 use Prim.Native.Nat.{min}
-use Rattle.theorems.specs.Names.{MachineId, ClientId, Mode, Owner, Unowned, Owned, Agent, AgentSlot, Address, ToDecider, ToMachine, Message, Free, Acquire, Grant, Release, Packet, LockState, _≡_, refl, ap, Bool, true, false, not, and-false, false≢true, List, [], _∷_, _++_, ℕ, suc, _+_, _*_, _≤_, _<_, arith, length, getD, set, eqb, leb, ltb, eqb-true, ltb-true, leb-true, leb-false, le-leb, pick, seated, noAgent, packets, lists, bool-cases}
+use Rattle.theorems.specs.Names.{MachineId, ClientId, Mode, Owner, Unowned, Owned, Agent, AgentSlot, Address, ToDecider, ToMachine, Message, Free, Acquire, Grant, Release, Packet, LockState, _≡_, refl, ap, Bool, true, false, not, and-false, false≢true, List, [], _∷_, _++_, ℕ, suc, _+_, _*_, _≤_, _<_, arith, length, getD, set, eqb, leb, ltb, eqb-true, ltb-true, leb-true, leb-false, le-leb, pick, seated, noAgent, packets, lists, bool-cases, _-_, machines, wireCapacity}
 use Rattle.theorems.specs.Tally.{flag, tally, tally-set, tally-at, tally-le, tally-le-at, tally-none, tally-add, tally-zero}
 use Rattle.theorems.specs.Weights.{slotAt, weight, markM, listedS, owedM, owedP, agentS, agentP, ownedF, farM, ownedAt, misfitS, fits, misfitP}
 use Rattle.theorems.specs.Invariant.{Inv}
@@ -36,24 +36,28 @@ hopsM o x y t Free = 0
 abbrev pub hops : Owner → List AgentSlot → Packet → ℕ
 hops o xs p = hopsM o (homeIn o xs) (p .carried .present) (p .to) (p .message)
 
--- the least distance in a list, at most 99
+-- the wire's length three times: more than the distance of any packet whose hops are known
+abbrev pub rounds : ℕ
+rounds = 3 * wireCapacity
+
+-- the least distance in a list, or `rounds`
 module _ {A : Type 0} (h : A → ℕ) where
   unfoldable pub least : List A → ℕ
-  least [] = 99
-  least (x ∷ xs) = min (33 * h x) (suc (least xs))
+  least [] = rounds
+  least (x ∷ xs) = min (wireCapacity * h x) (suc (least xs))
 
   least-kept : (xs : List A) (y : A) → h y ≤ 3 → least (xs ++ y ∷ []) ≤ least xs
   unfolding least
   least-kept [] y b = omega arith
   least-kept (x ∷ xs) y b = omega (arith, least-kept xs y b)
 
-  least-last : (xs : List A) (y : A) → least (xs ++ y ∷ []) ≤ length xs + 33 * h y
+  least-last : (xs : List A) (y : A) → least (xs ++ y ∷ []) ≤ length xs + wireCapacity * h y
   unfolding least
   least-last [] y = omega arith
   least-last (x ∷ xs) y = omega (arith, least-last xs y)
 
   -- the first goes to the end, and there has fewer hops, or had none that are known: the least distance falls
-  pub least-falls : (x y : A) (xs : List A) → h y ≤ 3 → (h x ≤ 2 → h y < h x) → length xs ≤ 32 → least (x ∷ xs) ≤ 98 → least (xs ++ y ∷ []) < least (x ∷ xs)
+  pub least-falls : (x y : A) (xs : List A) → h y ≤ 3 → (h x ≤ 2 → h y < h x) → length xs < wireCapacity → least (x ∷ xs) < rounds → least (xs ++ y ∷ []) < least (x ∷ xs)
   unfolding least
   least-falls x y xs b g n l =
       bool-cases (leb (h x) 2)
@@ -64,18 +68,18 @@ module _ {A : Type 0} (h : A → ℕ) where
   abbrev near : A → ℕ
   near x = flag (leb (h x) 2)
 
-  least-near : (xs : List A) → 1 ≤ tally near xs → least xs < length xs + 66
+  least-near : (xs : List A) → 1 ≤ tally near xs → least xs < length xs + 2 * wireCapacity
   unfolding least tally
   least-near [] n = absurd (omega arith)
   least-near (x ∷ xs) n =
-      let ih : leb (h x) 2 ≡ false → least xs < length xs + 66 = λ q. least-near xs (omega (arith, rw q at n)) in
+      let ih : leb (h x) 2 ≡ false → least xs < length xs + 2 * wireCapacity = λ q. least-near xs (omega (arith, rw q at n)) in
       bool-cases (leb (h x) 2) (λ q. omega (arith, leb-true (h x) 2 q)) (λ q. omega (arith, ih q))
 
 abbrev pub leastOf : LockState → ℕ
 leastOf s = least (hops (s .decider .owner) (s .agents)) (packets (s .wire))
 
 unfoldable pub dist : LockState → ℕ
-dist s = min 98 (leastOf s)
+dist s = min (rounds - 1) (leastOf s)
 
 -- ---- hops are at most 3
 route-two : (o : Owner) (t : Address) → route o t ≤ 2
@@ -133,11 +137,11 @@ pub seated-is : (x : AgentSlot) → x .present ≡ true → x ≡ seated (x .age
 seated-is x e = ap (λ (b : Bool). record { present = b; agent = x .agent }) e
 
 -- what counts only agents is counted on the one machine that has one
-only-here : (r : LockState) (i : Inv r) (k : ℕ) (kk : k < 4) (a : Agent) → slotAt r k ≡ seated a → (g : AgentSlot → ℕ) → ((x : AgentSlot) → agentS x ≡ 0 → g x ≡ 0)
+only-here : (r : LockState) (i : Inv r) (k : ℕ) (kk : k < machines) (a : Agent) → slotAt r k ≡ seated a → (g : AgentSlot → ℕ) → ((x : AgentSlot) → agentS x ≡ 0 → g x ≡ 0)
     → tally g (r .agents) ≡ g (seated a)
 unfolding weight agentS noAgent
 only-here r i k kk a es g z =
-    let room : k < length (r .agents) = omega (arith, i .four) in
+    let room : k < length (r .agents) = omega (arith, i .all-machines) in
     let th : tally agentS (r .agents) ≡ 1 = omega (arith, i .agent, owned-one (r .decider .owner), rw es at (tally-at agentS noAgent (r .agents) k room)) in
     let rs : tally g (set (r .agents) k noAgent) ≡ 0 = tally-none agentS g z (set (r .agents) k noAgent) (omega (arith, rw es at (tally-set agentS noAgent (r .agents) k noAgent room))) in
     omega (arith, rs, z noAgent refl, rw es at (tally-set g noAgent (r .agents) k noAgent room))
@@ -176,7 +180,7 @@ module _ (r : LockState) (i : Inv r) where
   unfolding farM weight listedS
   mark-there m k e here c u o =
       let a : Agent = slotAt r (k .0) .agent in
-      let kk : k .0 < 4 = ltb-true (k .0) 4 (fit (ltb (k .0) 4) (near-owner r m k i e)) in
+      let kk : k .0 < machines = ltb-true (k .0) machines (fit (ltb (k .0) machines) (near-owner r m k i e)) in
       let es : slotAt r (k .0) ≡ seated a = seated-is (slotAt r (k .0)) here in
       let zero-slot : (x : AgentSlot) → agentS x ≡ 0 → listedS (c .0) x ≡ 0 = λ x z. absent x (absent-of x z) .listedS (c .0) in
       let off : flag (getD (a .holders) (c .0) false) ≡ 0 = ap flag (rw here at u) in
@@ -216,6 +220,6 @@ module _ (r : LockState) (i : Inv r) where
   some-near Unowned e p qs eq = free-near e p qs eq
   some-near (Owned m k) e p qs eq = bool-cases (slotAt r (k .0) .present) (λ q. home-near m k e q p qs eq) (λ q. away-near m k e q)
 
-  -- a wire that is not empty has a packet at a distance of at most 98
-  pub least-bound : (p : Packet) (qs : List Packet) → ps ≡ p ∷ qs → leastOf r ≤ 98
+  -- a wire that is not empty has a packet whose distance is known
+  pub least-bound : (p : Packet) (qs : List Packet) → ps ≡ p ∷ qs → leastOf r < rounds
   least-bound p qs eq = omega (arith, wire-bound r i, least-near (hops (r .decider .owner) (r .agents)) ps (some-near (r .decider .owner) refl p qs eq))

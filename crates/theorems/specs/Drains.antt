@@ -1,19 +1,18 @@
 -- Every step of a drain is accepted and lowers the rank, so a drain ends, with its lock fresh and the others as they were.
-use Rattle.model.specs.Drain.{Next, none, some, nextCall, Quiescent, Drainage, ending, after-one, drainage, drainCalls, drainEnded, drainUnless, drain}
+use Rattle.model.specs.Drain.{allowance, Next, none, some, nextCall, Quiescent, Drainage, ending, after-one, drainage, drainCalls, drainEnded, drainUnless, drain}
 use Rattle.model.specs.Refusals.{first}
 use Rattle.laws.specs.Opened.{lockOf, stepOf, perform-elsewhere, perform-here}
 use Rattle.laws.specs.Next.{NextIs, delivers-first, releases-holder, next-is, rests, Goes, goes}
 use Rattle.laws.specs.Formed.{lock-formed}
-use Rattle.theorems.specs.Names.{LockId, MachineId, TaskId, ClientId, Mode, Exclusive, Shared, Agent, Address, ToDecider, ToMachine, Message, Free, Acquire, Grant, Release, Packet, Status, Idle, Waiting, Holding, LockState, Cluster, Call, ReleaseCall, DeliverCall, Accepted, Outcome, _≡_, refl, sym, ap, _∙_, Bool, true, false, _&&_, not, false≢true, List, [], _∷_, ℕ, zero, suc, _+_, _≤_, _<_, arith, length, eqb, eqb-true, eq-eqb, lt-leb, pick, all, removed, clientOf, statusOf, lockIn, packets, freshLock, wellFormed, isHolding, packetAt, after, answersOf, deliverStep, settled, perform, run, View, isAccepted, toMachine, isGrantFor, grants, shown, handedBack, sees, watch, and-left}
+use Rattle.theorems.specs.Names.{LockId, MachineId, TaskId, ClientId, Mode, Exclusive, Shared, Address, ToDecider, ToMachine, Message, Free, Acquire, Grant, Release, Packet, Status, Idle, Waiting, Holding, LockState, Cluster, Call, ReleaseCall, DeliverCall, Accepted, Outcome, _≡_, refl, sym, ap, _∙_, Bool, true, false, _&&_, not, false≢true, List, [], _∷_, ℕ, zero, suc, _+_, _≤_, _<_, arith, length, eqb, eqb-true, eq-eqb, lt-leb, pick, all, removed, clientOf, statusOf, lockIn, packets, freshLock, wellFormed, isHolding, packetAt, after, answersOf, deliverStep, settled, perform, run, View, isAccepted, toMachine, isGrantFor, grants, shown, handedBack, sees, watch, and-left, locks, fresh, granted, inParts}
 use Rattle.theorems.specs.Weights.{statusAt, waitF, holdF, few}
 use Rattle.theorems.specs.Invariant.{Inv}
 use Rattle.theorems.specs.Keep.{Split, split-at}
 use Rattle.theorems.specs.Facts.{grant-waits}
 use Rattle.theorems.specs.Fresh.{all-idle}
-use Rattle.theorems.specs.Sent.{made}
 use Rattle.theorems.specs.Runs.{sound-step, Reached, reached-next, reached}
 use Rattle.theorems.specs.Traced.{agrees-call}
-use Rattle.theorems.specs.Statements.{Drains, Demand3}
+use Rattle.theorems.specs.Statements.{provedBound, Drains, Demand3}
 use Rattle.theorems.specs.Theorems.{trace-agrees, exclusion-of-trace}
 use Rattle.theorems.specs.Falls.{rank, rank-bound, deliver-falls, release-falls}
 use Rattle.theorems.specs.Quiescence.{is-fresh}
@@ -38,14 +37,14 @@ shown-waiting v n e = rw e (go n)
     go Shared = omega arith
 
 -- a GRANT that is delivered finds its client waiting
-grant-finds : (s : LockState) (i : Inv s) (rest : List Packet) (c : ClientId) (t : Address) (m : Message) (b x : Bool) (a : Agent) → Split s (made m t b x a ∷ []) rest
+grant-finds : (s : LockState) (i : Inv s) (rest : List Packet) (c : ClientId) (p : Packet) (t : Address) (m : Message) (b : Bool) → Split s (inParts m t b (p .carried .present) p ∷ []) rest
     → (toMachine t && (isGrantFor c m && not b)) ≡ true → (n : Mode) × (statusOf s c ≡ Waiting n)
-grant-finds s i rest c ToDecider m b x a sp e = absurd (false≢true e)
-grant-finds s i rest c (ToMachine k) (Acquire d n g) b x a sp e = absurd (false≢true e)
-grant-finds s i rest c (ToMachine k) (Release d) b x a sp e = absurd (false≢true e)
-grant-finds s i rest c (ToMachine k) Free b x a sp e = absurd (false≢true e)
-grant-finds s i rest c (ToMachine k) (Grant d n) b x a sp e =
-    (n, ap (λ (z : ℕ). statusAt s z) (eqb-true (c .0) (d .0) (and-left (eqb (c .0) (d .0)) _ e)) ∙ grant-waits i sp)
+grant-finds s i rest c p ToDecider m b sp e = absurd (false≢true e)
+grant-finds s i rest c p (ToMachine k) (Acquire d n g) b sp e = absurd (false≢true e)
+grant-finds s i rest c p (ToMachine k) (Release d) b sp e = absurd (false≢true e)
+grant-finds s i rest c p (ToMachine k) Free b sp e = absurd (false≢true e)
+grant-finds s i rest c p (ToMachine k) (Grant d n) b sp e =
+    (n, ap (λ (z : ℕ). statusAt s z) (eqb-true (c .0) (d .0) (and-left (eqb (c .0) (d .0)) _ e)) ∙ grant-waits _ i refl sp)
 
 deliver-counted : (x : Cluster) (l : LockId) (j : ℕ) → Inv (lockIn x l) → j < length (packets (lockIn x l .wire)) → Counted l (DeliverCall l j) x
 unfolding Counted sees
@@ -58,7 +57,7 @@ deliver-counted x l j i b c v e = rw (eq-eqb (l .0) (l .0) refl) (go (grants c (
     go false q = refl
     go true q =
         let w : (n : Mode) × (statusOf (lockIn x l) c ≡ Waiting n) =
-        grant-finds (lockIn x l) i (removed (packets (lockIn x l .wire)) j) c (p .to) (p .message) (p .rejected) (p .carried .present) (p .carried .agent) (split-at (lockIn x l) j p b refl) q in
+        grant-finds (lockIn x l) i (removed (packets (lockIn x l .wire)) j) c p (p .to) (p .message) (p .rejected) (split-at (lockIn x l) j p b refl) q in
         shown-waiting v (w .0) (e ∙ w .1)
 
 release-counted : (x : Cluster) (l : LockId) (k : MachineId) (t : TaskId) (m : Mode) → statusOf (lockIn x l) (clientOf k t) ≡ Holding m → Counted l (ReleaseCall l k t) x
@@ -81,7 +80,7 @@ not-holding Idle e = refl
 not-holding (Waiting m) e = refl
 not-holding (Holding m) e = absurd (false≢true (sym e))
 
-module _ (x : Cluster) (l : LockId) (lb : l .0 < 8) (h : Reached x) where
+module _ (x : Cluster) (l : LockId) (lb : l .0 < locks) (h : Reached x) where
   abbrev s : LockState
   s = lockIn x l
 
@@ -91,7 +90,7 @@ module _ (x : Cluster) (l : LockId) (lb : l .0 < 8) (h : Reached x) where
       go : (ps : List Packet) → packets (s .wire) ≡ ps → 0 < length ps → rank (deliverStep s 0 .state) < rank s
       go [] e b = absurd (omega arith)
       go (p ∷ ps) e b = deliver-falls s (h .invs l) p ps e
-  next-falls _ (releases-holder k t m i b e st) = release-falls s (h .invs l) (clientOf k t) m (omega (arith, h .invs l .sixteen)) st
+  next-falls _ (releases-holder k t m i b e st) = release-falls s (h .invs l) (clientOf k t) m (omega (arith, h .invs l .all-clients)) st
 
   next-counted : (a : Call) → NextIs l s a → Counted l a x
   next-counted _ (delivers-first b) = deliver-counted x l 0 (h .invs l) b
@@ -175,7 +174,7 @@ ends-more : {x : Cluster} {l : LockId} {m n : ℕ} {d : Drainage} → m ≤ n �
 ends-more b e = record { answer = e .answer; few = omega (arith, b, e .few); runs = e .runs; state = e .state; accepted = e .accepted; quiescent = e .quiescent; others = e .others; shown = e .shown }
 
 -- by induction on the steps allowed: the rank bounds those that are taken
-ends : (n : ℕ) (x : Cluster) (l : LockId) → l .0 < 8 → Reached x → rank (lockIn x l) ≤ n → Ends x l (rank (lockIn x l)) (drainage n l x)
+ends : (n : ℕ) (x : Cluster) (l : LockId) → l .0 < locks → Reached x → rank (lockIn x l) ≤ n → Ends x l (rank (lockIn x l)) (drainage n l x)
 ends zero x l lb h b = go (onward x l lb h)
   where
     go : Onward x l → Ends x l (rank (lockIn x l)) (drainage 0 l x)
@@ -183,27 +182,27 @@ ends zero x l lb h b = go (onward x l lb h)
     go (steps a e q t cn r) = absurd (omega arith)
 ends (suc n) x l lb h b = go (onward x l lb h) (ends n)
   where
-    go : Onward x l → ((y : Cluster) (l : LockId) → l .0 < 8 → Reached y → rank (lockIn y l) ≤ n → Ends y l (rank (lockIn y l)) (drainage n l y)) → Ends x l (rank (lockIn x l)) (drainage (suc n) l x)
+    go : Onward x l → ((y : Cluster) (l : LockId) → l .0 < locks → Reached y → rank (lockIn y l) ≤ n → Ends y l (rank (lockIn y l)) (drainage n l y)) → Ends x l (rank (lockIn x l)) (drainage (suc n) l x)
     go (stops e f) ih = ends-now _ (suc n) x l e f
     go (steps a e q t cn r) ih =
         rw (drainage-steps n l x a e t) (ends-more r (ends-after x l h a q t cn _ _ (ih (perform a x .cluster) l lb (reached-next a x h) (omega arith))))
 
 -- ---- the call itself
-drain-is : (x : Cluster) (l : LockId) → wellFormed x ≡ true → l .0 < 8 → drainage 16384 l x .answer ≡ Accepted
-    → drain x l ≡ record { answer = Accepted; count = length (drainCalls l x); cluster = drainage 16384 l x .cluster }
+drain-is : (x : Cluster) (l : LockId) → wellFormed x ≡ true → l .0 < locks → drainage allowance l x .answer ≡ Accepted
+    → drain x l ≡ record { answer = Accepted; count = length (drainCalls l x); cluster = drainage allowance l x .cluster }
 unfolding drain drainUnless drainEnded first
-drain-is x l w lb e = rw (w, lt-leb 8 (l .0) lb, e)
+drain-is x l w lb e = rw (w, lt-leb locks (l .0) lb, e)
 
 waiting-one : (m : Mode) → waitingF (Waiting m) ≡ 1
 unfolding waitingF waitF
 waiting-one Exclusive = refl
 waiting-one Shared = refl
 
-pub drains-reached : (x : Cluster) (l : LockId) → l .0 < 8 → Reached x → Drains x l (λ c. statusOf (lockIn x l) c)
+pub drains-reached : (x : Cluster) (l : LockId) → l .0 < locks → Reached x → Drains x l (λ c. statusOf (lockIn x l) c)
 drains-reached x l lb h =
-    let few : rank (lockIn x l) ≤ 11384 = rank-bound (lockIn x l) (h .invs l) in
-    let e : Ends x l (rank (lockIn x l)) (drainage 16384 l x) = ends 16384 x l lb h (omega arith) in
-    let d : drain x l ≡ record { answer = Accepted; count = length (drainCalls l x); cluster = drainage 16384 l x .cluster } = drain-is x l (h .formed) lb (e .answer) in
+    let few : rank (lockIn x l) ≤ provedBound = rank-bound (lockIn x l) (h .invs l) in
+    let e : Ends x l (rank (lockIn x l)) (drainage allowance l x) = ends allowance x l lb h (omega arith) in
+    let d : drain x l ≡ record { answer = Accepted; count = length (drainCalls l x); cluster = drainage allowance l x .cluster } = drain-is x l (h .formed) lb (e .answer) in
     record {
       answered = rw d;
       counted = rw d;

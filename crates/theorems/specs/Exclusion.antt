@@ -1,5 +1,5 @@
 -- At most one client holds an exclusive lock.
-use Rattle.theorems.specs.Names.{MachineId, Mode, Exclusive, Shared, Owner, Unowned, Owned, Agent, Address, ToDecider, ToMachine, Message, Free, Acquire, Grant, Release, Packet, Holding, LockState, _≡_, refl, ap, Bool, true, false, not, List, [], _∷_, ℕ, zero, suc, _+_, _≤_, _/_, arith, getD, eqb, ltb, leb-true, noAgent, packets, and-left, and-right}
+use Rattle.theorems.specs.Names.{MachineId, Mode, Exclusive, Shared, Owner, Unowned, Owned, Agent, Address, ToDecider, ToMachine, Message, Free, Acquire, Grant, Release, Packet, Holding, LockState, _≡_, refl, ap, Bool, true, false, not, List, [], _∷_, ℕ, zero, suc, _+_, _≤_, arith, getD, eqb, ltb, leb-true, noAgent, packets, and-left, and-right, clients, machineOf}
 use Rattle.theorems.specs.Tally.{flag, gate, tally, tally-le-at, tally-none, tally-add}
 use Rattle.theorems.specs.Weights.{statusAt, slotAt, weight, sameMode, markM, listedS, listedP, agentS, heads, holdF, clash, ownedMode, ownedAt, few, misfitS, fitsAway, fitsFree, fits, misfitP}
 use Rattle.theorems.specs.Invariant.{Inv}
@@ -23,14 +23,14 @@ two-flags (x ∷ xs) (suc d) (suc e) n = omega (arith, two-flags xs d e (λ q. n
 -- a carried agent that fits lists nobody
 pub carried-away : (o : Owner) (t : Address) (b : Bool) (a : Agent) (m : Message) → fits o true t b a m ≡ true → fitsAway a ≡ true
 unfolding fits fitsFree
-carried-away o t b a (Acquire c n g) e = let q : false ≡ true = and-right (ltb (c .0) 16) false e in cc
-carried-away o t b a (Release c) e = let q : false ≡ true = and-right (ltb (c .0) 16) false e in cc
+carried-away o t b a (Acquire c n g) e = let q : false ≡ true = and-right (ltb (c .0) clients) false e in cc
+carried-away o t b a (Release c) e = let q : false ≡ true = and-right (ltb (c .0) clients) false e in cc
 carried-away o ToDecider b a Free e = and-left (fitsAway a) _ (and-right (ownedMode o (a .mode)) _ (and-right (not b) _ e))
 carried-away o (ToMachine k) b a Free e = and-left (fitsAway a) _ (and-right (ownedMode o (a .mode)) _ (and-right (ownedAt o (k .0)) _ (and-right b _ e)))
-carried-away o ToDecider b a (Grant c n) e = and-right (ownedMode o (a .mode)) _ (and-right (not b) _ (and-right (ltb (c .0) 16) _ e))
-carried-away o (ToMachine k) true a (Grant c n) e = and-right (ownedMode o (a .mode)) _ (and-right (ownedAt o (k .0)) _ (and-right (ltb (c .0) 16) _ e))
+carried-away o ToDecider b a (Grant c n) e = and-right (ownedMode o (a .mode)) _ (and-right (not b) _ (and-right (ltb (c .0) clients) _ e))
+carried-away o (ToMachine k) true a (Grant c n) e = and-right (ownedMode o (a .mode)) _ (and-right (ownedAt o (k .0)) _ (and-right (ltb (c .0) clients) _ e))
 carried-away o (ToMachine k) false a (Grant c n) e =
-    and-right (ownedMode o n) _ (and-right (eqb (c .0 / 4) (k .0)) _ (and-right (ownedAt o (k .0)) _ (and-right (ltb (c .0) 16) _ e)))
+    and-right (ownedMode o n) _ (and-right (eqb (machineOf c .0) (k .0)) _ (and-right (ownedAt o (k .0)) _ (and-right (ltb (c .0) clients) _ e)))
 
 lists-carried : (o : Owner) (d : ℕ) (x : Bool) (t : Address) (b : Bool) (a : Agent) (m : Message) → fits o x t b a m ≡ true → gate x (flag (getD (a .holders) d false)) ≡ 0
 lists-carried o d true t b a m e = nobody (a .holders) d (away-of a (carried-away o t b a m e) .empty)

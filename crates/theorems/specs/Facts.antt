@@ -1,7 +1,7 @@
 -- What the invariant gives: of packets, of agents, of counts.
-use Rattle.theorems.specs.Names.{MachineId, ClientId, Mode, Exclusive, Shared, Owner, Unowned, Owned, Waiter, Agent, AgentSlot, Address, Message, Free, Acquire, Grant, Release, Packet, Status, Idle, Waiting, Holding, LockState, _≡_, refl, sym, ap, _∙_, Bool, true, false, _&&_, not, and-false, false≢true, List, [], _∷_, ℕ, _+_, _*_, _≤_, _<_, _/_, arith, ℕ-discrete, length, getD, set, length-set, List·getD-eq-default, getD-set-same, getD-set-other, eqb, ltb, eqb-true, eq-eqb, ne-eqb, ltb-true, ltb-false, lt-ltb, leb-true, le-leb, seated, idle, noAgent, packets, changed, and-left, and-right, bool-cases}
+use Rattle.theorems.specs.Names.{MachineId, ClientId, Mode, Exclusive, Shared, Owner, Unowned, Owned, Waiter, Agent, AgentSlot, Address, Message, Free, Acquire, Grant, Release, Packet, Status, Idle, Waiting, Holding, LockState, _≡_, refl, sym, ap, _∙_, Bool, true, false, _&&_, not, and-false, false≢true, List, [], _∷_, ℕ, _+_, _*_, _≤_, _<_, arith, ℕ-discrete, length, getD, set, length-set, List·getD-eq-default, getD-set-same, getD-set-other, eqb, ltb, eqb-true, eq-eqb, ne-eqb, ltb-true, ltb-false, lt-ltb, leb-true, le-leb, seated, idle, noAgent, packets, changed, and-left, and-right, bool-cases, machines, clients, wireCapacity, machineOf, ownedShared, true≢false, isShared}
 use Rattle.theorems.specs.Tally.{flag, tally, tally-set, tally-at, tally-le, tally-none, tally-add, tally-length, sumTo, sum-swap, sum-le, sum-ext, sum-one}
-use Rattle.theorems.specs.Weights.{statusAt, slotAt, weight, sameMode, one, hit, hitW, askM, queuedS, waitingP, markM, listedS, listedP, owedM, owedP, releaseM, releaseP, agentS, agentP, incarnationS, incarnationP, markAll, markP, rejectedP, heads, vacantS, waitF, holdF, idleF, ownedF, clash, farM, farF, ownedShared, ownedMode, ownedAt, few, fitsHome, misfitS, fitsAway, inRange, fits, misfitP}
+use Rattle.theorems.specs.Weights.{statusAt, slotAt, weight, sameMode, one, hit, hitW, askM, queuedS, waitingP, markM, listedS, listedP, owedM, owedP, releaseM, releaseP, agentS, agentP, incarnationS, incarnationP, markAll, markP, rejectedP, heads, vacantS, waitF, holdF, idleF, ownedF, clash, farM, farF, ownedMode, ownedAt, few, fitsHome, misfitS, fitsAway, inRange, fits, fitsP, misfitP}
 use Rattle.theorems.specs.Invariant.{Inv}
 use Rattle.theorems.specs.Keep.{Split, told}
 
@@ -56,72 +56,66 @@ came-fits r rest p i sp = omega (arith, i .fitting, sp .parts (misfitP (r .decid
 pub near-owner : (r : LockState) (m : Mode) (k : MachineId) → Inv r → r .decider .owner ≡ Owned m k → farM k ≡ 0
 near-owner r m k i e = omega (arith, i .reach, ap farF e)
 
-pub near-home : (c : ClientId) → c .0 < 16 → farM (record { 0 = c .0 / 4 }) ≡ 0
+pub near-home : (c : ClientId) → c .0 < clients → farM (machineOf c) ≡ 0
 unfolding farM
-near-home c h = rw (lt-ltb (c .0 / 4) 4 (omega arith))
-
--- an ACQUIRE or a RELEASE carries no agent
-pub carries-none-acquire : (o : Owner) (x : Bool) (t : Address) (b : Bool) (a : Agent) (c : ClientId) (n : Mode) (g : Bool) → fits o x t b a (Acquire c n g) ≡ true → x ≡ false
-unfolding fits
-carries-none-acquire o true t b a c n g e = sym (and-right (inRange (Acquire c n g)) false e)
-carries-none-acquire o false t b a c n g e = refl
+near-home c h = rw (lt-ltb (machineOf c .0) machines (omega arith))
 
 pub named-of : (o : Owner) (x : Bool) (t : Address) (b : Bool) (a : Agent) (m : Message) → fits o x t b a m ≡ true → inRange m ≡ true
 unfolding fits
 named-of o true t b a m e = and-left (inRange m) _ e
 named-of o false t b a m e = and-left (inRange m) _ e
 
-pub carries-none-release : (o : Owner) (x : Bool) (t : Address) (b : Bool) (a : Agent) (c : ClientId) → fits o x t b a (Release c) ≡ true → x ≡ false
-unfolding fits
-carries-none-release o true t b a c e = sym (and-right (inRange (Release c)) false e)
-carries-none-release o false t b a c e = refl
+-- an ACQUIRE or a RELEASE of the client c, and what is known of one on the wire: it carries no agent
+pub data Request (c : ClientId) : Message → Type 0 where
+  acquire-of : {n : Mode} {g : Bool} → Request c (Acquire c n g)
+  release-of : Request c (Release c)
 
--- what is known of an ACQUIRE or a RELEASE on the wire
+carries-none : {c : ClientId} {m : Message} (o : Owner) (x : Bool) (t : Address) (b : Bool) (a : Agent) → Request c m → fits o x t b a m ≡ true → x ≡ false
+unfolding fits
+carries-none o false t b a q e = refl
+carries-none {c} o true t b a acquire-of e = sym (and-right (ltb (c .0) clients) false e)
+carries-none {c} o true t b a release-of e = sym (and-right (ltb (c .0) clients) false e)
+
+named-in : {c : ClientId} {m : Message} → Request c m → inRange m ≡ true → ltb (c .0) clients ≡ true
+named-in acquire-of e = e
+named-in release-of e = e
+
 pub record Plain (c : ClientId) (s : AgentSlot) : Type 0 where
   pub none : Zero s
-  pub named : ltb (c .0) 16 ≡ true
-  pub below : c .0 < 16
+  pub named : ltb (c .0) clients ≡ true
+  pub below : c .0 < clients
 
-pub plain-acquire : {r : LockState} {rest : List Packet} {c : ClientId} {n : Mode} {g : Bool} {t : Address} {b : Bool} {s : AgentSlot} → Inv r
-    → Split r (record { message = Acquire c n g; to = t; rejected = b; carried = s } ∷ []) rest → Plain c s
+pub plain-request : {r : LockState} {rest : List Packet} {c : ClientId} {p : Packet} → Inv r → Request c (p .message) → Split r (p ∷ []) rest → Plain c (p .carried)
 unfolding misfitP
-plain-acquire {r} {rest} {c} {n} {g} {t} {b} {s} i sp =
-    let f : fits (r .decider .owner) (s .present) t b (s .agent) (Acquire c n g) ≡ true = fit _ (came-fits r rest _ i sp) in
-    let nm : ltb (c .0) 16 ≡ true = named-of _ _ _ _ _ (Acquire c n g) f in
-    record { none = absent s (carries-none-acquire _ _ _ _ _ _ _ _ f); named = nm; below = ltb-true (c .0) 16 nm }
-
-pub plain-release : {r : LockState} {rest : List Packet} {c : ClientId} {t : Address} {b : Bool} {s : AgentSlot} → Inv r
-    → Split r (record { message = Release c; to = t; rejected = b; carried = s } ∷ []) rest → Plain c s
-unfolding misfitP
-plain-release {r} {rest} {c} {t} {b} {s} i sp =
-    let f : fits (r .decider .owner) (s .present) t b (s .agent) (Release c) ≡ true = fit _ (came-fits r rest _ i sp) in
-    let nm : ltb (c .0) 16 ≡ true = named-of _ _ _ _ _ (Release c) f in
-    record { none = absent s (carries-none-release _ _ _ _ _ _ f); named = nm; below = ltb-true (c .0) 16 nm }
+plain-request {r} {rest} {c} {p} i q sp =
+    let f : fitsP (r .decider .owner) p ≡ true = fit _ (came-fits r rest p i sp) in
+    let nm : ltb (c .0) clients ≡ true = named-in q (named-of _ _ _ _ _ (p .message) f) in
+    record { none = absent (p .carried) (carries-none _ _ _ _ _ q f); named = nm; below = ltb-true (c .0) clients nm }
 
 -- ---- the agent in a packet
 pub record Away (a : Agent) : Type 0 where
-  pub sized : length (a .holders) ≡ 16
+  pub sized : length (a .holders) ≡ clients
   pub empty : heads a ≡ 0
   pub small : a .incarnation < 256
 
 pub away-of : (a : Agent) → fitsAway a ≡ true → Away a
 unfolding fitsAway
 away-of a h =
-    let h1 : (eqb (heads a) 0 && ltb (a .incarnation) 256) ≡ true = and-right (eqb (length (a .holders)) 16) _ h in
+    let h1 : (eqb (heads a) 0 && ltb (a .incarnation) 256) ≡ true = and-right (eqb (length (a .holders)) clients) _ h in
     record {
-      sized = eqb-true (length (a .holders)) 16 (and-left (eqb (length (a .holders)) 16) _ h);
+      sized = eqb-true (length (a .holders)) clients (and-left (eqb (length (a .holders)) clients) _ h);
       empty = eqb-true (heads a) 0 (and-left (eqb (heads a) 0) _ h1);
       small = ltb-true (a .incarnation) 256 (and-right (eqb (heads a) 0) _ h1);
     }
 
 pub away-fits : (a : Agent) → Away a → fitsAway a ≡ true
 unfolding fitsAway
-away-fits a h = rw (eq-eqb (length (a .holders)) 16 (h .sized), eq-eqb (heads a) 0 (h .empty), lt-ltb (a .incarnation) 256 (h .small))
+away-fits a h = rw (eq-eqb (length (a .holders)) clients (h .sized), eq-eqb (heads a) 0 (h .empty), lt-ltb (a .incarnation) 256 (h .small))
 
 pub record Home (o : Owner) (k : ℕ) (a : Agent) : Type 0 where
   pub at : ownedAt o k ≡ true
   pub mode : ownedMode o (a .mode) ≡ true
-  pub sized : length (a .holders) ≡ 16
+  pub sized : length (a .holders) ≡ clients
   pub few : few (a .mode) (heads a) ≡ true
   pub small : a .incarnation < 256
 
@@ -129,20 +123,20 @@ pub home-of : (o : Owner) (k : ℕ) (a : Agent) → misfitS o k (seated a) ≡ 0
 unfolding misfitS fitsHome
 home-of o k a e =
     let h : fitsHome o k a ≡ true = fit (fitsHome o k a) e in
-    let h1 : (ownedMode o (a .mode) && (eqb (length (a .holders)) 16 && (few (a .mode) (heads a) && ltb (a .incarnation) 256))) ≡ true = and-right (ownedAt o k) _ h in
-    let h2 : (eqb (length (a .holders)) 16 && (few (a .mode) (heads a) && ltb (a .incarnation) 256)) ≡ true = and-right (ownedMode o (a .mode)) _ h1 in
-    let h3 : (few (a .mode) (heads a) && ltb (a .incarnation) 256) ≡ true = and-right (eqb (length (a .holders)) 16) _ h2 in
+    let h1 : (ownedMode o (a .mode) && (eqb (length (a .holders)) clients && (few (a .mode) (heads a) && ltb (a .incarnation) 256))) ≡ true = and-right (ownedAt o k) _ h in
+    let h2 : (eqb (length (a .holders)) clients && (few (a .mode) (heads a) && ltb (a .incarnation) 256)) ≡ true = and-right (ownedMode o (a .mode)) _ h1 in
+    let h3 : (few (a .mode) (heads a) && ltb (a .incarnation) 256) ≡ true = and-right (eqb (length (a .holders)) clients) _ h2 in
     record {
       at = and-left (ownedAt o k) _ h;
       mode = and-left (ownedMode o (a .mode)) _ h1;
-      sized = eqb-true _ _ (and-left (eqb (length (a .holders)) 16) _ h2);
+      sized = eqb-true _ _ (and-left (eqb (length (a .holders)) clients) _ h2);
       few = and-left (few (a .mode) (heads a)) _ h3;
       small = ltb-true (a .incarnation) 256 (and-right (few (a .mode) (heads a)) _ h3);
     }
 
 pub home-fits : (o : Owner) (k : ℕ) (a : Agent) → Home o k a → misfitS o k (seated a) ≡ 0
 unfolding misfitS fitsHome
-home-fits o k a h = rw (h .at, h .mode, eq-eqb (length (a .holders)) 16 (h .sized), h .few, lt-ltb (a .incarnation) 256 (h .small))
+home-fits o k a h = rw (h .at, h .mode, eq-eqb (length (a .holders)) clients (h .sized), h .few, lt-ltb (a .incarnation) 256 (h .small))
 
 pub seat-home : (r : LockState) (k : ℕ) (a : Agent) → Inv r → slotAt r k ≡ seated a → Home (r .decider .owner) k a
 seat-home r k a i e = home-of (r .decider .owner) k a (rw e at (i .homes k))
@@ -152,22 +146,25 @@ few-less Exclusive x y h e = le-leb y 1 (omega (arith, leb-true x 1 e))
 few-less Shared x y h e = refl
 
 -- ---- a client's status after a step, as a number
-pub status-move : (F : Status → ℕ) (r : LockState) (c : ClientId) (st : Status) → c .0 < length (r .clients) → (d : ℕ)
-    → F (told r c st d) + flag (eqb (c .0) d) * F (statusAt r (c .0)) ≡ F (statusAt r d) + flag (eqb (c .0) d) * F st
-status-move F r c st h d = go (ℕ-discrete d (c .0))
+pub status-move : {r : LockState} {c : ClientId} {old : Status} → Inv r → c .0 < clients → statusAt r (c .0) ≡ old → (st : Status) (F : Status → ℕ) (d : ℕ)
+    → F (told r c st d) + one d c * F old ≡ F (statusAt r d) + one d c * F st
+unfolding one
+status-move {r} {c} i cl e st F d = rw (← e) (go (ℕ-discrete d (c .0)))
   where
     go : Dec (d ≡ c .0) → F (told r c st d) + flag (eqb (c .0) d) * F (statusAt r (c .0)) ≡ F (statusAt r d) + flag (eqb (c .0) d) * F st
-    go (yes q) = rw (q, eq-eqb (c .0) (c .0) refl, told, getD-set-same (r .clients) (c .0) (record { status = st }) idle h) (omega arith)
+    go (yes q) =
+        let h : c .0 < length (r .clients) = omega (arith, i .all-clients) in
+        rw (q, eq-eqb (c .0) (c .0) refl, told, getD-set-same (r .clients) (c .0) (record { status = st }) idle h) (omega arith)
     go (no n) = rw (ne-eqb (c .0) d (λ q. n (sym q)), told, getD-set-other (r .clients) (c .0) d (record { status = st }) idle n) (omega arith)
 
 -- ---- who waits is a client
-pub far-idle : (r : LockState) (d : ℕ) → Inv r → 16 ≤ d → statusAt r d ≡ Idle
-far-idle r d i h = let l : length (r .clients) ≤ d = omega (arith, i .sixteen) in rw (statusAt, List·getD-eq-default (r .clients) idle l)
+pub far-idle : (r : LockState) (d : ℕ) → Inv r → clients ≤ d → statusAt r d ≡ Idle
+far-idle r d i h = let l : length (r .clients) ≤ d = omega (arith, i .all-clients) in rw (statusAt, List·getD-eq-default (r .clients) idle l)
 
-pub waiter-below : (r : LockState) (d : ℕ) (m : Mode) → Inv r → 0 < weight (waitingP d m) (queuedS d m) r → d < 16
+pub waiter-below : (r : LockState) (d : ℕ) (m : Mode) → Inv r → 0 < weight (waitingP d m) (queuedS d m) r → d < clients
 unfolding waitF
 waiter-below r d m i h =
-    bool-cases (ltb d 16) (λ q. ltb-true d 16 q) (λ q. absurd (omega (arith, rw (far-idle r d i (ltb-false d 16 q)) at (i .waits d m))))
+    bool-cases (ltb d clients) (λ q. ltb-true d clients q) (λ q. absurd (omega (arith, rw (far-idle r d i (ltb-false d clients q)) at (i .waits d m))))
 
 pub hit-self : (c : ClientId) (n : Mode) → hit (c .0) n c n ≡ 1
 unfolding hit
@@ -175,9 +172,9 @@ hit-self c Exclusive = rw (eq-eqb (c .0) (c .0) refl)
 hit-self c Shared = rw (eq-eqb (c .0) (c .0) refl)
 
 -- a count over the packets or the slots, from below
-pub in-slot : (r : LockState) (f : Packet → ℕ) (g : AgentSlot → ℕ) (k : ℕ) (s : AgentSlot) → Inv r → k < 4 → slotAt r k ≡ s → g s ≤ weight f g r
+pub in-slot : (r : LockState) (f : Packet → ℕ) (g : AgentSlot → ℕ) (k : ℕ) (s : AgentSlot) → Inv r → k < machines → slotAt r k ≡ s → g s ≤ weight f g r
 unfolding weight
-in-slot r f g k s i kk e = omega (arith, rw e at (tally-at g noAgent (r .agents) k (omega (arith, i .four))))
+in-slot r f g k s i kk e = omega (arith, rw e at (tally-at g noAgent (r .agents) k (omega (arith, i .all-machines))))
 
 pub waits-one : (m : Mode) (s : Status) → waitF m s ≤ 1
 unfolding waitF
@@ -202,18 +199,18 @@ unfolding one
 one-le d c = bool-cases (eqb (c .0) d) (λ q. rw q (omega arith)) (λ q. rw q (omega arith))
 
 abbrev pub farW : Waiter → ℕ
-farW w = flag (not (ltb (w .client .0) 16))
+farW w = flag (not (ltb (w .client .0) clients))
 
-pub far-none : (ws : List Waiter) → ((d : ℕ) (m : Mode) → 16 ≤ d → tally (hitW d m) ws ≡ 0) → tally farW ws ≡ 0
+pub far-none : (ws : List Waiter) → ((d : ℕ) (m : Mode) → clients ≤ d → tally (hitW d m) ws ≡ 0) → tally farW ws ≡ 0
 unfolding tally
 far-none [] h = refl
 far-none (w ∷ ws) h =
     let t : tally farW ws ≡ 0 = far-none ws (λ d m g. omega (arith, h d m g)) in
-    rw (at (ltb (w .client .0) 16) refl) (omega arith)
+    rw (at (ltb (w .client .0) clients) refl) (omega arith)
   where
-    at : (b : Bool) → ltb (w .client .0) 16 ≡ b → ltb (w .client .0) 16 ≡ true
+    at : (b : Bool) → ltb (w .client .0) clients ≡ b → ltb (w .client .0) clients ≡ true
     at true e = e
-    at false e = absurd (omega (arith, h (w .client .0) (w .mode) (ltb-false (w .client .0) 16 e), hit-self (w .client) (w .mode)))
+    at false e = absurd (omega (arith, h (w .client .0) (w .mode) (ltb-false (w .client .0) clients e), hit-self (w .client) (w .mode)))
 
 pub clash-none : (o : Owner) (n : Mode) → ownedMode o n ≡ true → clash o (Holding n) ≡ 0
 unfolding clash
@@ -240,21 +237,21 @@ unfolding hit one
 hits d c Exclusive = omega arith
 hits d c Shared = omega arith
 
--- the message names one client below 16, or is FREE
-names-sum : (m : Message) → inRange m ≡ true → isFree m + sumTo 16 (λ d. namesM d m) ≡ 1
+-- the message names one client below clients, or is FREE
+names-sum : (m : Message) → inRange m ≡ true → isFree m + sumTo clients (λ d. namesM d m) ≡ 1
 unfolding askM markM releaseM isFree one
 names-sum (Acquire c n false) e =
-    omega (arith, sum-ext 16 (λ d. namesM d (Acquire c n false)) (λ d. one d c) (λ d. omega (arith, hits d c n)), sum-one 16 (c .0) (ltb-true (c .0) 16 e))
-names-sum (Acquire c n true) e = omega (arith, sum-ext 16 (λ d. namesM d (Acquire c n true)) (λ d. one d c) (λ d. omega arith), sum-one 16 (c .0) (ltb-true (c .0) 16 e))
-names-sum (Grant c n) e = omega (arith, sum-ext 16 (λ d. namesM d (Grant c n)) (λ d. one d c) (λ d. omega (arith, hits d c n)), sum-one 16 (c .0) (ltb-true (c .0) 16 e))
-names-sum (Release c) e = omega (arith, sum-ext 16 (λ d. namesM d (Release c)) (λ d. one d c) (λ d. omega arith), sum-one 16 (c .0) (ltb-true (c .0) 16 e))
-names-sum Free e = omega (arith, sum-le 16 0 (λ d. namesM d Free) (λ d. omega arith))
+    omega (arith, sum-ext clients (λ d. namesM d (Acquire c n false)) (λ d. one d c) (λ d. omega (arith, hits d c n)), sum-one clients (c .0) (ltb-true (c .0) clients e))
+names-sum (Acquire c n true) e = omega (arith, sum-ext clients (λ d. namesM d (Acquire c n true)) (λ d. one d c) (λ d. omega arith), sum-one clients (c .0) (ltb-true (c .0) clients e))
+names-sum (Grant c n) e = omega (arith, sum-ext clients (λ d. namesM d (Grant c n)) (λ d. one d c) (λ d. omega (arith, hits d c n)), sum-one clients (c .0) (ltb-true (c .0) clients e))
+names-sum (Release c) e = omega (arith, sum-ext clients (λ d. namesM d (Release c)) (λ d. one d c) (λ d. omega arith), sum-one clients (c .0) (ltb-true (c .0) clients e))
+names-sum Free e = omega (arith, sum-le clients 0 (λ d. namesM d Free) (λ d. omega arith))
 
 -- a packet is a misfit, or carries an agent and is a FREE, or names one client
-counts-one : (o : Owner) (p : Packet) → 1 ≤ misfitP o p + isFree (p .message) + sumTo 16 (λ d. namesM d (p .message))
+counts-one : (o : Owner) (p : Packet) → 1 ≤ misfitP o p + isFree (p .message) + sumTo clients (λ d. namesM d (p .message))
 unfolding misfitP
 counts-one o p =
-    bool-cases (fits o (p .carried .present) (p .to) (p .rejected) (p .carried .agent) (p .message))
+    bool-cases (fitsP o p)
     (λ q. omega (arith, names-sum (p .message) (named-of _ _ _ _ _ (p .message) q)))
     (λ q. let e : misfitP o p ≡ 1 = rw q in omega arith)
 
@@ -315,7 +312,7 @@ module _ (r : LockState) (i : Inv r) where
   abbrev ps : List Packet
   ps = packets (r .wire)
 
-  -- the four counts of a client's packets
+  -- the all-machines counts of a client's packets
   pub asks : (d : ℕ) (m : Mode) → tally (λ p. askM d m (p .message)) ps ≤ waitF m (statusAt r d)
   unfolding weight
   asks d m = omega (arith, i .waits d m, tally-add (λ p. askM d m (p .message)) (λ p. queuedS d m (p .carried)) ps)
@@ -324,17 +321,8 @@ module _ (r : LockState) (i : Inv r) where
   unfolding weight
   marks d = omega (arith, i .holds d, tally-add (λ p. markM d (p .message)) (λ p. listedS d (p .carried)) ps)
 
-  pub owes : (d : ℕ) → tally (owedP d) ps ≤ tally (λ p. askM d Exclusive (p .message)) ps + tally (λ p. askM d Shared (p .message)) ps + tally (releaseP d) ps
-  owes d =
-      omega (
-        arith,
-        tally-le (owedP d) _ (owes-parts d) ps,
-        tally-add (λ p. askM d Exclusive (p .message) + askM d Shared (p .message)) (releaseP d) ps,
-        tally-add (λ p. askM d Exclusive (p .message)) (λ p. askM d Shared (p .message)) ps,
-      )
-
   pub marked-below : (d : ℕ) → tally (λ p. markM d (p .message)) ps ≤ 1
-  marked-below d = omega (arith, statuses (statusAt r d), asks d Exclusive, asks d Shared, marks d, owes d, i .rels d)
+  marked-below d = omega (arith, statuses (statusAt r d), asks d Exclusive, asks d Shared, marks d, owes-list d ps, i .rels d)
 
   pub named-below : (d : ℕ) → tally (λ p. namesM d (p .message)) ps ≤ 2
   named-below d =
@@ -344,7 +332,7 @@ module _ (r : LockState) (i : Inv r) where
         asks d Exclusive,
         asks d Shared,
         marks d,
-        owes d,
+        owes-list d ps,
         i .rels d,
         tally-add (λ p. askM d Exclusive (p .message) + askM d Shared (p .message) + markM d (p .message)) (releaseP d) ps,
         tally-add (λ p. askM d Exclusive (p .message) + askM d Shared (p .message)) (λ p. markM d (p .message)) ps,
@@ -357,7 +345,7 @@ module _ (r : LockState) (i : Inv r) where
       omega
       (arith, tally-le _ _ (free-carries (r .decider .owner)) ps, tally-add (misfitP (r .decider .owner)) agentP ps, i .fitting, i .agent, owned-one (r .decider .owner))
 
-  pub wire-bound : length ps ≤ 33
+  pub wire-bound : length ps ≤ wireCapacity
   wire-bound =
       omega (
         arith,
@@ -365,24 +353,24 @@ module _ (r : LockState) (i : Inv r) where
         frees,
         i .fitting,
         tally-le (λ p. 1) _ (counts-one (r .decider .owner)) ps,
-        tally-add (λ p. misfitP (r .decider .owner) p + isFree (p .message)) (λ p. sumTo 16 (λ d. namesM d (p .message))) ps,
+        tally-add (λ p. misfitP (r .decider .owner) p + isFree (p .message)) (λ p. sumTo clients (λ d. namesM d (p .message))) ps,
         tally-add (misfitP (r .decider .owner)) (λ p. isFree (p .message)) ps,
-        sum-swap 16 (λ d p. namesM d (p .message)) ps,
-        sum-le 16 2 (λ d. tally (λ p. namesM d (p .message)) ps) named-below,
+        sum-swap clients (λ d p. namesM d (p .message)) ps,
+        sum-le clients 2 (λ d. tally (λ p. namesM d (p .message)) ps) named-below,
       )
 
-mark-in-range : (m : Message) → inRange m ≡ true → markAll m ≤ sumTo 16 (λ d. markM d m)
+mark-in-range : (m : Message) → inRange m ≡ true → markAll m ≤ sumTo clients (λ d. markM d m)
 unfolding markAll markM one
 mark-in-range (Acquire c n false) e = omega arith
-mark-in-range (Acquire c n true) e = omega (arith, sum-one 16 (c .0) (ltb-true (c .0) 16 e))
+mark-in-range (Acquire c n true) e = omega (arith, sum-one clients (c .0) (ltb-true (c .0) clients e))
 mark-in-range (Grant c n) e = omega arith
 mark-in-range (Release c) e = omega arith
 mark-in-range Free e = omega arith
 
-mark-fits : (o : Owner) (p : Packet) → markP p ≤ misfitP o p + sumTo 16 (λ d. markM d (p .message))
+mark-fits : (o : Owner) (p : Packet) → markP p ≤ misfitP o p + sumTo clients (λ d. markM d (p .message))
 unfolding misfitP markAll
 mark-fits o p =
-    bool-cases (fits o (p .carried .present) (p .to) (p .rejected) (p .carried .agent) (p .message))
+    bool-cases (fitsP o p)
     (λ q. omega (arith, mark-in-range (p .message) (named-of _ _ _ _ _ (p .message) q)))
     (λ q. let e : misfitP o p ≡ 1 = rw q in omega (arith, mark-one (p .message)))
   where
@@ -419,15 +407,15 @@ silent-free r i o =
 inc-zero : (s : AgentSlot) → agentS s ≡ 0 → incarnationS s ≡ 0
 inc-zero s e = absent s (absent-of s e) .incarnationS
 
-pub marks-bound : (r : LockState) → Inv r → tally markP (packets (r .wire)) ≤ 16
+pub marks-bound : (r : LockState) → Inv r → tally markP (packets (r .wire)) ≤ clients
 marks-bound r i =
     omega (
       arith,
       tally-le markP _ (mark-fits (r .decider .owner)) (packets (r .wire)),
-      tally-add (misfitP (r .decider .owner)) (λ p. sumTo 16 (λ d. markM d (p .message))) (packets (r .wire)),
+      tally-add (misfitP (r .decider .owner)) (λ p. sumTo clients (λ d. markM d (p .message))) (packets (r .wire)),
       i .fitting,
-      sum-swap 16 (λ d p. markM d (p .message)) (packets (r .wire)),
-      sum-le 16 1 (λ d. tally (λ p. markM d (p .message)) (packets (r .wire))) (marked-below r i),
+      sum-swap clients (λ d p. markM d (p .message)) (packets (r .wire)),
+      sum-le clients 1 (λ d. tally (λ p. markM d (p .message)) (packets (r .wire))) (marked-below r i),
     )
 
 pub silent-equal : (r : LockState) (p : Packet) (rest : List Packet) (i : Inv r) → Split r (p ∷ []) rest → agentP p ≡ 1 → incarnationP p ≡ r .decider .incarnation
@@ -493,10 +481,10 @@ module _ (r : LockState) (p : Packet) (rest : List Packet) (i : Inv r) (sp : Spl
       )
 
 -- ---- the agent at home: no packet carries one, no other machine has one
-module _ (r : LockState) (i : Inv r) (k : ℕ) (kk : k < 4) (a : Agent) (es : slotAt r k ≡ seated a) where
+module _ (r : LockState) (i : Inv r) (k : ℕ) (kk : k < machines) (a : Agent) (es : slotAt r k ≡ seated a) where
   pub none-away : tally agentP (packets (r .wire)) ≡ 0
   unfolding weight agentS
-  none-away = omega (arith, i .agent, owned-one (r .decider .owner), rw es at (tally-at agentS noAgent (r .agents) k (omega (arith, i .four))))
+  none-away = omega (arith, i .agent, owned-one (r .decider .owner), rw es at (tally-at agentS noAgent (r .agents) k (omega (arith, i .all-machines))))
 
   pub none-rejected : tally rejectedP (packets (r .wire)) ≡ 0
   unfolding misfitP agentS
@@ -514,7 +502,7 @@ module _ (r : LockState) (i : Inv r) (k : ℕ) (kk : k < 4) (a : Agent) (es : sl
   pub none-vacant : (s : AgentSlot) → vacantS s ≡ 0 → agentS s ≡ 1 → tally vacantS (set (r .agents) k s) ≡ 0
   unfolding weight agentS vacantS noAgent
   none-vacant s v h =
-      let room : k < length (r .agents) = omega (arith, i .four) in
+      let room : k < length (r .agents) = omega (arith, i .all-machines) in
       let th : tally agentS (r .agents) ≡ 1 = omega (arith, i .agent, owned-one (r .decider .owner), rw es at (tally-at agentS noAgent (r .agents) k room)) in
       let rs : tally vacantS (set (r .agents) k noAgent) ≡ 0 = tally-none agentS vacantS vacant-here (set (r .agents) k noAgent) (omega (arith, rw es at (tally-set agentS noAgent (r .agents) k noAgent room))) in
       omega (arith, rs, v, rw es at (tally-set vacantS noAgent (r .agents) k s room), rw es at (tally-set vacantS noAgent (r .agents) k noAgent room))
@@ -525,26 +513,26 @@ one-self c = rw (eq-eqb (c .0) (c .0) refl)
 
 -- who is listed or marked is so once
 pub lists-one : (r : LockState) (i : Inv r) (d : ℕ) → weight (listedP d) (listedS d) r ≤ 1
-lists-one r i d = omega (arith, i .holds d, statuses (statusAt r d), asks r i d Exclusive, asks r i d Shared, owes r i d, i .rels d)
+lists-one r i d = omega (arith, i .holds d, statuses (statusAt r d), asks r i d Exclusive, asks r i d Shared, owes-list d (packets (r .wire)), i .rels d)
 
 -- who asks is neither listed nor marked
-pub asker-unlisted : (r : LockState) (rest : List Packet) (c : ClientId) (n : Mode) (t : Address) (b : Bool) (s : AgentSlot) (i : Inv r)
-    → Split r (record { message = Acquire c n false; to = t; rejected = b; carried = s } ∷ []) rest → weight (listedP (c .0)) (listedS (c .0)) r ≡ 0
+pub asker-unlisted : {r : LockState} {rest : List Packet} {c : ClientId} {n : Mode} (p : Packet) → Inv r → p .message ≡ Acquire c n false → Split r (p ∷ []) rest
+    → weight (listedP (c .0)) (listedS (c .0)) r ≡ 0
 unfolding tally askM owedM releaseM
-asker-unlisted r rest c n t b s i sp =
+asker-unlisted {r} {rest} {c} {n} p i e sp =
     omega (
       arith,
       i .holds (c .0),
       statuses (statusAt r (c .0)),
       asks r i (c .0) Exclusive,
       asks r i (c .0) Shared,
-      sp .parts (λ p. askM (c .0) Exclusive (p .message)),
-      sp .parts (λ p. askM (c .0) Shared (p .message)),
+      rw e at (sp .parts (λ q. askM (c .0) Exclusive (q .message))),
+      rw e at (sp .parts (λ q. askM (c .0) Shared (q .message))),
       hits (c .0) c n,
       one-self c,
       owes-list (c .0) rest,
-      sp .parts (owedP (c .0)),
-      sp .parts (releaseP (c .0)),
+      rw e at (sp .parts (owedP (c .0))),
+      rw e at (sp .parts (releaseP (c .0))),
       i .rels (c .0),
     )
 
@@ -571,20 +559,22 @@ drop-last true false c d e = e
 drop-last false b c d e = e
 
 -- who has a GRANT on the wire waits, in its mode
-pub grant-waits : {r : LockState} {rest : List Packet} {c : ClientId} {n : Mode} {t : Address} {b : Bool} {x : AgentSlot} → Inv r
-    → Split r (record { message = Grant c n; to = t; rejected = b; carried = x } ∷ []) rest → statusAt r (c .0) ≡ Waiting n
+pub grant-waits : {r : LockState} {rest : List Packet} {c : ClientId} {n : Mode} (p : Packet) → Inv r → p .message ≡ Grant c n → Split r (p ∷ []) rest → statusAt r (c .0) ≡ Waiting n
 unfolding weight tally askM
-grant-waits {r} {rest} {c} {n} i sp = waiting-is n _ (omega (arith, i .waits (c .0) n, sp .parts (waitingP (c .0) n), hit-self c n, waits-one n (statusAt r (c .0))))
+grant-waits {r} {rest} {c} {n} p i e sp =
+    waiting-is n _ (omega (arith, i .waits (c .0) n, rw e at (sp .parts (waitingP (c .0) n)), hit-self c n, waits-one n (statusAt r (c .0))))
 
-pub exclusive-owner : (o : Owner) → ownedMode o Exclusive ≡ true → ownedShared o ≡ false
-exclusive-owner Unowned e = refl
-exclusive-owner (Owned Exclusive k) e = refl
-exclusive-owner (Owned Shared k) e = absurd (false≢true e)
+-- a lock whose agent is not shared is not
+pub unshared : (o : Owner) (n : Mode) → isShared n ≡ false → ownedMode o n ≡ true → ownedShared o ≡ false
+unshared Unowned n e f = refl
+unshared (Owned Exclusive k) n e f = refl
+unshared (Owned Shared k) Exclusive e f = absurd (false≢true f)
+unshared (Owned Shared k) Shared e f = absurd (true≢false e)
 
 -- a rejected packet on the wire carries an agent
 pub rejected-carries-one : (r : LockState) (i : Inv r) (rest : List Packet) (p : Packet) → Split r (p ∷ []) rest → p .carried .present ≡ false → p .rejected ≡ true → ⊥
 unfolding misfitP
 rejected-carries-one r i rest p sp e f =
-    let g : flag (p .rejected) ≤ flag (not (fits (r .decider .owner) (p .carried .present) (p .to) (p .rejected) (p .carried .agent) (p .message))) + flag (p .carried .present) =
+    let g : flag (p .rejected) ≤ flag (not (fitsP (r .decider .owner) p)) + flag (p .carried .present) =
     rejected-carries (r .decider .owner) (p .carried .present) (p .to) (p .rejected) (p .carried .agent) (p .message) in
     omega (arith, came-fits r rest p i sp, g, ap flag e, ap flag f)

@@ -1,5 +1,5 @@
 -- The fresh lock satisfies the invariant.
-use Rattle.theorems.specs.Names.{Idle, _≡_, refl, [], ℕ, zero, suc, arith, getD, replicate, idle, noAgent, freshLock, packets-of}
+use Rattle.theorems.specs.Names.{Idle, _≡_, refl, [], ℕ, zero, suc, arith, getD, replicate, idle, noAgent, freshLock, packets-of, machines, clients}
 use Rattle.theorems.specs.Tally.{tally}
 use Rattle.theorems.specs.Weights.{statusAt, slotAt, weight, queuedS, listedS, agentS, incarnationS, vacantS, waitF, holdF, idleF, ownedF, clash, misfitS}
 use Rattle.theorems.specs.Invariant.{Inv}
@@ -11,18 +11,18 @@ all-same x (suc n) (suc d) = all-same x n d
 
 pub all-idle : (d : ℕ) → statusAt freshLock d ≡ Idle
 unfolding freshLock
-all-idle d = rw (statusAt, all-same idle 16 d)
+all-idle d = rw (statusAt, all-same idle clients d)
 
 no-slot : (k : ℕ) → slotAt freshLock k ≡ noAgent
 unfolding freshLock
-no-slot k = all-same noAgent 4 k
+no-slot k = all-same noAgent machines k
 
 pub inv-fresh : Inv freshLock
 unfolding freshLock noAgent tally weight queuedS listedS agentS incarnationS waitF holdF idleF ownedF clash misfitS vacantS
 inv-fresh =
     record {
-      four = refl;
-      sixteen = refl;
+      all-machines = refl;
+      all-clients = refl;
       waits = λ d m. rw (packets-of [], all-idle d);
       holds = λ d. rw (packets-of [], all-idle d);
       rels = λ d. rw (packets-of [], all-idle d) (omega arith);

@@ -1,32 +1,31 @@
 -- A GRANT with its agent comes to its client's machine: the agent is installed, and with a shared one the shared waiters join.
-use Rattle.theorems.specs.Names.{MachineId, ClientId, Mode, Shared, Owner, Waiter, Agent, AgentSlot, ToMachine, Grant, Packet, Status, Waiting, Holding, LockState, _≡_, refl, _∙_, Bool, true, false, _&&_, List, [], _∷_, map, ℕ, _+_, _*_, _≤_, _<_, _/_, arith, length, getD, set, length-set, List·getD-eq-default, eqb, ltb, eq-eqb, ne-eqb, ltb-true, ltb-false, seated, waiters, noAgent, siteOf, grantOf, installed, admitted, staying, joined, installs, and-left, and-right, waiters-of}
+use Rattle.theorems.specs.Names.{MachineId, ClientId, Mode, Shared, Owner, Waiter, Agent, AgentSlot, ToMachine, Grant, Packet, Waiting, Holding, LockState, _≡_, refl, _∙_, Bool, true, false, _&&_, List, [], _∷_, map, ℕ, _+_, _≤_, _<_, arith, length, getD, set, length-set, List·getD-eq-default, eqb, ltb, eq-eqb, ne-eqb, ltb-true, ltb-false, seated, waiters, noAgent, siteOf, grantOf, installed, admitted, staying, joined, installs, and-left, and-right, waiters-of, not, machines, clients, machineOf, inParts, length-joined}
 use Rattle.theorems.specs.Tally.{flag, tally}
 use Rattle.theorems.specs.Weights.{statusAt, slotAt, weight, one, hit, oneW, hitW, askM, queuedS, waitingP, markM, listedS, listedP, owedM, owedP, releaseM, releaseP, agentS, agentP, incarnationS, incarnationP, markAll, markP, rejectedP, heads, vacantS, waitF, holdF, idleF, clash, farP, ownedMode, ownedAt, few, misfitS, fitsAway, fits, misfitP}
 use Rattle.theorems.specs.Invariant.{Inv}
-use Rattle.theorems.specs.Keep.{Split, told, framed, keep, vacancy-by}
+use Rattle.theorems.specs.Keep.{Split, keep, vacancy-by, framed}
 use Rattle.theorems.specs.Facts.{fit, Zero, absent, list-on, nobody, came-fits, Away, away-of, home-fits, status-move, far-idle, waits-one, clash-none, grant-waits}
-use Rattle.theorems.specs.Sent.{Good, made}
-use Rattle.theorems.specs.Waiters.{parted, grants-count, grants-none, length-joined, join-count, admitted-below, single-of, grants-fit, few-joined, none-far}
+use Rattle.theorems.specs.Sent.{Good}
+use Rattle.theorems.specs.Waiters.{parted, grants-count, grants-none, join-count, admitted-below, single-of, grants-fit, few-joined, none-far}
 
 -- ---- what is known of a GRANT with an agent that comes to a machine
 record Coming (o : Owner) (k : MachineId) (c : ClientId) (n : Mode) (a : Agent) : Type 0 where
-  below : c .0 < 16
+  below : c .0 < clients
   at : ownedAt o (k .0) ≡ true
   mode : ownedMode o n ≡ true
-  sized : length (a .holders) ≡ 16
+  sized : length (a .holders) ≡ clients
   empty : heads a ≡ 0
   small : a .incarnation < 256
 
-coming : (o : Owner) (k : MachineId) (c : ClientId) (n : Mode) (a : Agent)
-    → misfitP o (made (Grant c n) (ToMachine k) false true a) ≡ 0 → Coming o k c n a
-unfolding misfitP fits
+coming : (o : Owner) (k : MachineId) (c : ClientId) (n : Mode) (a : Agent) → flag (not (fits o true (ToMachine k) false a (Grant c n))) ≡ 0 → Coming o k c n a
+unfolding fits
 coming o k c n a e =
-    let f0 : (ltb (c .0) 16 && (ownedAt o (k .0) && (eqb (c .0 / 4) (k .0) && (ownedMode o n && fitsAway a)))) ≡ true = fit _ e in
-    let f1 : (ownedAt o (k .0) && (eqb (c .0 / 4) (k .0) && (ownedMode o n && fitsAway a))) ≡ true = and-right (ltb (c .0) 16) _ f0 in
-    let f2 : (ownedMode o n && fitsAway a) ≡ true = and-right (eqb (c .0 / 4) (k .0)) _ (and-right (ownedAt o (k .0)) _ f1) in
+    let f0 : (ltb (c .0) clients && (ownedAt o (k .0) && (eqb (machineOf c .0) (k .0) && (ownedMode o n && fitsAway a)))) ≡ true = fit _ e in
+    let f1 : (ownedAt o (k .0) && (eqb (machineOf c .0) (k .0) && (ownedMode o n && fitsAway a))) ≡ true = and-right (ltb (c .0) clients) _ f0 in
+    let f2 : (ownedMode o n && fitsAway a) ≡ true = and-right (eqb (machineOf c .0) (k .0)) _ (and-right (ownedAt o (k .0)) _ f1) in
     let aw : Away a = away-of a (and-right (ownedMode o n) _ f2) in
     record {
-      below = ltb-true (c .0) 16 (and-left (ltb (c .0) 16) _ f0);
+      below = ltb-true (c .0) clients (and-left (ltb (c .0) clients) _ f0);
       at = and-left (ownedAt o (k .0)) _ f1;
       mode = and-left (ownedMode o n) _ f2;
       sized = aw .sized;
@@ -34,16 +33,24 @@ coming o k c n a e =
       small = aw .small;
     }
 
-module _ (r : LockState) (rest : List Packet) (k : MachineId) (c : ClientId) (n : Mode) (a : Agent) (old : AgentSlot) where
+-- the GRANT is the packet p
+module _ (r : LockState) (rest : List Packet) (k : MachineId) (c : ClientId) (n : Mode) (p : Packet) (old : AgentSlot) where
+  abbrev a : Agent
+  a = p .carried .agent
+
+  abbrev came : Packet
+  came = inParts (Grant c n) (ToMachine k) false true p
+
   abbrev line : List Waiter
   line = waiters (a .queue)
 
   abbrev holders′ : List Bool
   holders′ = joined (set (a .holders) (c .0) true) (admitted n line)
 
-  module _ (i : Inv r) (kk : k .0 < 4) (es : slotAt r (k .0) ≡ old) (ab : old .present ≡ false) (sp : Split r (made (Grant c n) (ToMachine k) false true a ∷ []) rest) where
+  module _ (i : Inv r) (kk : k .0 < machines) (es : slotAt r (k .0) ≡ old) (ab : old .present ≡ false) (sp : Split r (came ∷ []) rest) where
     known : Coming (r .decider .owner) k c n a
-    known = coming _ k c n a (came-fits r rest _ i sp)
+    unfolding misfitP
+    known = coming _ k c n a (came-fits r rest came i sp)
 
     -- the client and those in the queue are counted by `waits`
     counted : (d : ℕ) (m : Mode) → hit d m c n + tally (hitW d m) line ≤ waitF m (statusAt r d)
@@ -51,7 +58,7 @@ module _ (r : LockState) (rest : List Packet) (k : MachineId) (c : ClientId) (n 
     counted d m = omega (arith, i .waits d m, sp .parts (waitingP d m))
 
     waiting : statusAt r (c .0) ≡ Waiting n
-    waiting = grant-waits i sp
+    waiting = grant-waits came i refl sp
 
     cl : c .0 < length (a .holders)
     cl = omega (arith, known .sized, known .below)
@@ -61,17 +68,17 @@ module _ (r : LockState) (rest : List Packet) (k : MachineId) (c : ClientId) (n 
 
     lists : (d : ℕ) → flag (getD holders′ d false) ≡ one d c + tally (oneW d) (admitted n line)
     unfolding one waitF
-    lists d = go (ltb d 16) refl
+    lists d = go (ltb d clients) refl
       where
-        go : (b : Bool) → ltb d 16 ≡ b → flag (getD holders′ d false) ≡ one d c + tally (oneW d) (admitted n line)
+        go : (b : Bool) → ltb d clients ≡ b → flag (getD holders′ d false) ≡ one d c + tally (oneW d) (admitted n line)
         go true q =
-            let dl : d < length (a .holders) = omega (arith, known .sized, ltb-true d 16 q) in
+            let dl : d < length (a .holders) = omega (arith, known .sized, ltb-true d clients q) in
             let e : flag (getD (set (a .holders) (c .0) true) d false) ≡ one d c =
             omega (arith, list-on (a .holders) (c .0) d cl (nobody (a .holders) (c .0) (known .empty)), nobody (a .holders) d (known .empty)) in
             let dl′ : d < length (set (a .holders) (c .0) true) = omega (arith, length-set (a .holders) (c .0) true) in
             omega (arith, join-count (set (a .holders) (c .0) true) (admitted n line) d dl′ (omega (arith, single d)))
         go false q =
-            let dh : 16 ≤ d = ltb-false d 16 q in
+            let dh : clients ≤ d = ltb-false d clients q in
             let hl : length holders′ ≤ d = omega (arith, length-joined (set (a .holders) (c .0) true) (admitted n line), length-set (a .holders) (c .0) true, known .sized) in
             let w : waitF Shared (statusAt r d) ≡ 0 = rw (far-idle r d i dh) in
             let e : flag (eqb (c .0) d) ≡ 0 = rw (ne-eqb (c .0) d (λ p. omega (arith, p, known .below))) in
@@ -79,10 +86,6 @@ module _ (r : LockState) (rest : List Packet) (k : MachineId) (c : ClientId) (n 
 
     old-zero : Zero old
     old-zero = absent old ab
-
-    move : (F : Status → ℕ) (d : ℕ) → F (told r c (Holding n) d) + one d c * F (Waiting n) ≡ F (statusAt r d) + one d c * F (Holding n)
-    unfolding one
-    move F d = rw waiting at (status-move F r c (Holding n) (omega (arith, known .below, i .sixteen)) d)
 
     no-marks : tally markP (map grantOf (admitted n line)) ≡ 0
     unfolding markAll
@@ -97,26 +100,26 @@ module _ (r : LockState) (rest : List Packet) (k : MachineId) (c : ClientId) (n 
     pub keep-installs : Good r k c rest (installs (siteOf r k c) c n a)
     unfolding tally askM markM owedM releaseM markAll queuedS listedS agentS incarnationS misfitP misfitS vacantS one hit waitF holdF idleF installs noAgent
     keep-installs =
-        keep r k c (r .decider .owner) old _ (made (Grant c n) (ToMachine k) false true a ∷ []) _ rest i
+        keep i
         (record {
-          frame = framed sp kk es refl refl;
+          frame = framed sp kk es refl;
           waits = λ d m.
               rw (waiters-of (staying n line))
-              (omega (arith, old-zero .queuedS d m, move (waitF m) d, grants-count n (waitingP d m) (hitW d m) (λ e. omega arith) line, parted n (hitW d m) line));
+              (omega (arith, old-zero .queuedS d m, status-move i (known .below) waiting (Holding n) (waitF m) d, grants-count n (waitingP d m) (hitW d m) (λ e. omega arith) line, parted n (hitW d m) line));
           holds = λ d.
               omega (
                 arith,
                 old-zero .listedS d,
                 nobody (a .holders) d (known .empty),
-                move holdF d,
+                status-move i (known .below) waiting (Holding n) holdF d,
                 lists d,
                 grants-none n (listedP d) (λ e. refl) line,
                 grants-count n (owedP d) (oneW d) (λ e. refl) line,
               );
-          rels = λ d. omega (arith, i .rels d, sp .parts (releaseP d), grants-none n (releaseP d) (λ e. refl) line, move idleF d);
+          rels = λ d. omega (arith, i .rels d, sp .parts (releaseP d), grants-none n (releaseP d) (λ e. refl) line, status-move i (known .below) waiting (Holding n) idleF d);
           agent = omega (arith, old-zero .agentS, grants-none n agentP (λ e. refl) line);
           incs = λ x h. omega (arith, old-zero .incarnationS, grants-none n incarnationP (λ e. refl) line, no-marks);
-          modes = λ d. omega (arith, i .modes d, rw (clash-none (r .decider .owner) n (known .mode)) at (move (clash (r .decider .owner)) d));
+          modes = λ d. omega (arith, i .modes d, rw (clash-none (r .decider .owner) n (known .mode)) at (status-move i (known .below) waiting (Holding n) (clash (r .decider .owner)) d));
           fitting = grants-fit (r .decider .owner) n (known .mode) line (none-far r i line (λ d m. omega (arith, counted d m)));
           slot =
               home-fits (r .decider .owner) (k .0) _
@@ -128,5 +131,5 @@ module _ (r : LockState) (rest : List Packet) (k : MachineId) (c : ClientId) (n 
                 small = known .small;
               });
           reach = grants-none n farP (λ e. refl) line;
-          vacancy = vacancy-by r old (seated (installed n c a)) (k .0) (made (Grant c n) (ToMachine k) false true a ∷ []) rest (map grantOf (admitted n line)) i sp kk es (rw (ne-eqb (tally flag holders′) 0 listed-now) (omega (arith, no-marks, grants-none n rejectedP (λ e. refl) line)));
+          vacancy = vacancy-by (seated (installed n c a)) (map grantOf (admitted n line)) i sp kk es (rw (ne-eqb (tally flag holders′) 0 listed-now) (omega (arith, no-marks, grants-none n rejectedP (λ e. refl) line)));
         })

@@ -1,11 +1,11 @@
 -- The invariant of one lock's state.
-use Rattle.theorems.specs.Names.{_≡_, ℕ, _+_, _≤_, _%_, length, Mode, LockState, packets}
+use Rattle.theorems.specs.Names.{_≡_, ℕ, _+_, _≤_, _%_, length, Mode, LockState, packets, machines, clients}
 use Rattle.theorems.specs.Tally.{tally}
 use Rattle.theorems.specs.Weights.{statusAt, slotAt, weight, waitingP, queuedS, listedP, listedS, owedP, releaseP, agentP, agentS, incarnationP, incarnationS, markP, rejectedP, vacantS, waitF, holdF, idleF, ownedF, clash, farF, farP, misfitP, misfitS}
 
 pub record Inv (r : LockState) : Type 0 where
-  pub four : length (r .agents) ≡ 4
-  pub sixteen : length (r .clients) ≡ 16
+  pub all-machines : length (r .agents) ≡ machines
+  pub all-clients : length (r .clients) ≡ clients
   -- a client that waits in a mode has one unmarked ACQUIRE, one GRANT or one place in a queue; any other has none
   pub waits : (d : ℕ) (m : Mode) → weight (waitingP d m) (queuedS d m) r ≡ waitF m (statusAt r d)
   -- it is listed, or to be listed by a marked ACQUIRE, as often as it holds, or is owed a GRANT, or has a RELEASE under way

@@ -1,5 +1,6 @@
--- How any weight changes under a step, and what a step has to show so that the invariant is kept.
-use Rattle.theorems.specs.Names.{MachineId, ClientId, Mode, Owner, AgentSlot, Address, Message, Packet, Status, LockState, _≡_, refl, ap, _∙_, Bool, List, [], _∷_, _++_, ℕ, _+_, _-_, _≤_, _<_, _%_, arith, ℕ-discrete, length, getD, set, length-set, set-getD, getD-set-same, getD-set-other, removed, idle, noAgent, blankPacket, packets, Site, siteOf, apply, wireOf, packets-of}
+-- How any weight changes under a step, and what a step has to show so that the invariant is kept. A step is about machine k, whose slot was old,
+-- and client c; v is the site after it; the packets gone leave the wire, qs are sent, rest stays.
+use Rattle.theorems.specs.Names.{MachineId, ClientId, Mode, AgentSlot, Address, Packet, Status, LockState, _≡_, refl, ap, _∙_, Bool, List, [], _∷_, _++_, ℕ, _+_, _-_, _≤_, _<_, _%_, arith, ℕ-discrete, length, getD, set, length-set, set-getD, getD-set-same, getD-set-other, removed, idle, noAgent, blankPacket, packets, Site, siteOf, apply, wireOf, packets-of, machines, resent, sym, withSlot}
 use Rattle.theorems.specs.Tally.{flag, tally, tally-one, tally-append, tally-removed, tally-set, tally-at}
 use Rattle.theorems.specs.Weights.{statusAt, slotAt, weight, queuedS, waitingP, listedS, listedP, owedP, releaseP, agentS, agentP, incarnationS, incarnationP, markP, rejectedP, vacantS, waitF, holdF, idleF, ownedF, clash, farA, farP, farF, misfitS, misfitP}
 use Rattle.theorems.specs.Invariant.{Inv}
@@ -29,33 +30,36 @@ pub split-at : (r : LockState) (i : ℕ) (p : Packet) → i < length (packets (r
     → Split r (p ∷ []) (removed (packets (r .wire)) i)
 split-at r i p h e = record { parts = λ f. rw (tally-one, ← e) (omega (arith, tally-removed f blankPacket (packets (r .wire)) i h)) }
 
--- what any step has to show: o is the owner after it
-pub record Step (r : LockState) (k : MachineId) (c : ClientId) (o : Owner) (old : AgentSlot) (v : Site) (gone qs rest : List Packet) : Type 0 where
+-- the state after a step has the invariant
+pub record Keeps (r : LockState) (k : MachineId) (c : ClientId) (rest : List Packet) (v : Site) (qs : List Packet) : Type 0 where
+  pub inv : Inv (apply k c v qs rest r)
+
+-- what any step has to show
+pub record Step (r : LockState) (k : MachineId) (c : ClientId) (old : AgentSlot) (v : Site) (gone qs rest : List Packet) : Type 0 where
   pub split : Split r gone rest
-  pub machine : k .0 < 4
-  pub owner : v .decider .owner ≡ o
+  pub machine : k .0 < machines
   pub seat : slotAt r (k .0) ≡ old
   pub waits : (d : ℕ) (m : Mode) → tally (waitingP d m) gone + queuedS d m old + waitF m (told r c (v .status) d)
       ≡ tally (waitingP d m) qs + queuedS d m (v .slot) + waitF m (statusAt r d)
   pub holds : (d : ℕ) → tally (listedP d) gone + listedS d old + holdF (told r c (v .status) d) + tally (owedP d) qs
       ≡ tally (listedP d) qs + listedS d (v .slot) + holdF (statusAt r d) + tally (owedP d) gone
   pub rels : (d : ℕ) → tally (releaseP d) rest + tally (releaseP d) qs ≤ idleF (told r c (v .status) d)
-  pub agent : tally agentP gone + agentS old + ownedF o ≡ tally agentP qs + agentS (v .slot) + ownedF (r .decider .owner)
+  pub agent : tally agentP gone + agentS old + ownedF (v .decider .owner) ≡ tally agentP qs + agentS (v .slot) + ownedF (r .decider .owner)
   pub incs : (x : ℕ) → r .decider .incarnation ≡ (x + tally incarnationP gone + incarnationS old + tally markP gone) % 256
       → v .decider .incarnation ≡ (x + tally incarnationP qs + incarnationS (v .slot) + tally markP qs) % 256
-  pub modes : (d : ℕ) → clash o (told r c (v .status) d) ≡ 0
-  pub fitting : tally (misfitP o) rest + tally (misfitP o) qs ≡ 0
-  pub homes : (j : ℕ) → misfitS o j (slotAt (apply k c v qs rest r) j) ≡ 0
-  pub reach : farF o + tally farP qs ≡ 0
+  pub modes : (d : ℕ) → clash (v .decider .owner) (told r c (v .status) d) ≡ 0
+  pub fitting : tally (misfitP (v .decider .owner)) rest + tally (misfitP (v .decider .owner)) qs ≡ 0
+  pub homes : (j : ℕ) → misfitS (v .decider .owner) j (slotAt (apply k c v qs rest r) j) ≡ 0
+  pub reach : farF (v .decider .owner) + tally farP qs ≡ 0
   pub vacancy : tally rejectedP rest + tally rejectedP qs + tally vacantS (set (r .agents) (k .0) (v .slot)) ≤ tally markP rest + tally markP qs
 
-module _ (r : LockState) (k : MachineId) (c : ClientId) (o : Owner) (old : AgentSlot) (v : Site) (gone qs rest : List Packet) (i : Inv r) (l : Step r k c o old v gone qs rest) where
+module _ {r : LockState} {k : MachineId} {c : ClientId} {old : AgentSlot} {v : Site} {gone qs rest : List Packet} (i : Inv r) (l : Step r k c old v gone qs rest) where
   -- the number x of `incs`: the carried incarnations and marks that stay
   others : ℕ
   others = tally incarnationP rest + tally markP rest + (tally incarnationS (r .agents) - incarnationS old)
 
   room : k .0 < length (r .agents)
-  room = omega (arith, i .four, l .machine)
+  room = omega (arith, i .all-machines, l .machine)
 
   after : (f : Packet → ℕ) (g : AgentSlot → ℕ) → weight f g (apply k c v qs rest r) + tally f gone + g old ≡ weight f g r + tally f qs + g (v .slot)
   after f g = rw (l .seat) at (weight-after f g r k c v gone qs rest (l .split .parts f) room)
@@ -82,38 +86,39 @@ module _ (r : LockState) (k : MachineId) (c : ClientId) (o : Owner) (old : Agent
   unfolding weight
   vacant-after = omega (arith, packets-after markP rest qs, packets-after rejectedP rest qs, l .vacancy)
 
-  pub keep-step : Inv (apply k c v qs rest r)
+  pub keep-step : Keeps r k c rest v qs
   keep-step =
       record {
-        four = length-set (r .agents) _ _ ∙ i .four;
-        sixteen = length-set (r .clients) _ _ ∙ i .sixteen;
-        waits = λ d m. omega (arith, after (waitingP d m) (queuedS d m), i .waits d m, l .waits d m);
-        holds = λ d. omega (arith, after (listedP d) (listedS d), packets-after (owedP d) rest qs, i .holds d, l .holds d, l .split .parts (owedP d));
-        rels = λ d. omega (arith, packets-after (releaseP d) rest qs, l .rels d);
-        agent = omega (arith, after agentP agentS, i .agent, l .agent, ap ownedF (l .owner));
-        incs = l .incs others incs-old ∙ ap (λ (n : ℕ). n % 256) incs-new;
-        modes = λ d. rw (l .owner) (l .modes d);
-        fitting = rw (l .owner) (omega (arith, packets-after (misfitP o) rest qs, l .fitting));
-        homes = λ j. rw (l .owner) (l .homes j);
-        reach = omega (arith, packets-after farP rest qs, l .reach, ap farF (l .owner), i .reach, l .split .parts farP);
-        vacancy = vacant-after;
+        inv = record {
+          all-machines = length-set (r .agents) _ _ ∙ i .all-machines;
+          all-clients = length-set (r .clients) _ _ ∙ i .all-clients;
+          waits = λ d m. omega (arith, after (waitingP d m) (queuedS d m), i .waits d m, l .waits d m);
+          holds = λ d. omega (arith, after (listedP d) (listedS d), packets-after (owedP d) rest qs, i .holds d, l .holds d, l .split .parts (owedP d));
+          rels = λ d. omega (arith, packets-after (releaseP d) rest qs, l .rels d);
+          agent = omega (arith, after agentP agentS, i .agent, l .agent);
+          incs = l .incs others incs-old ∙ ap (λ (n : ℕ). n % 256) incs-new;
+          modes = l .modes;
+          fitting = omega (arith, packets-after (misfitP (v .decider .owner)) rest qs, l .fitting);
+          homes = l .homes;
+          reach = omega (arith, packets-after farP rest qs, l .reach, i .reach, l .split .parts farP);
+          vacancy = vacant-after;
+        };
       }
 
--- ---- a step that leaves the owner: what it takes and where it writes
-pub record Frame (r : LockState) (k : MachineId) (c : ClientId) (o : Owner) (old : AgentSlot) (v : Site) (gone qs rest : List Packet) : Type 0 where
+-- where a step takes place that leaves the owner
+pub record Frame (r : LockState) (k : MachineId) (old : AgentSlot) (v : Site) (gone rest : List Packet) : Type 0 where
   pub split : Split r gone rest
-  pub machine : k .0 < 4
-  pub was : r .decider .owner ≡ o
-  pub owner : v .decider .owner ≡ o
+  pub machine : k .0 < machines
   pub seat : slotAt r (k .0) ≡ old
+  pub owner : v .decider .owner ≡ r .decider .owner
 
-pub framed : {r : LockState} {k : MachineId} {c : ClientId} {o : Owner} {old : AgentSlot} {v : Site} {gone qs rest : List Packet} → Split r gone rest → k .0 < 4 → slotAt r (k .0) ≡ old
-    → r .decider .owner ≡ o → v .decider .owner ≡ o → Frame r k c o old v gone qs rest
-framed sp kk es w o = record { split = sp; machine = kk; was = w; owner = o; seat = es }
+pub framed : {r : LockState} {k : MachineId} {old : AgentSlot} {v : Site} {gone rest : List Packet} → Split r gone rest → k .0 < machines → slotAt r (k .0) ≡ old
+    → v .decider .owner ≡ r .decider .owner → Frame r k old v gone rest
+framed sp kk es o = record { split = sp; machine = kk; seat = es; owner = o }
 
--- what it has to show: nothing of it speaks of the wire's other packets
-pub record Local (r : LockState) (k : MachineId) (c : ClientId) (o : Owner) (old : AgentSlot) (v : Site) (gone qs rest : List Packet) : Type 0 where
-  pub frame : Frame r k c o old v gone qs rest
+-- What such a step has to show: nothing of it speaks of the wire's other packets.
+pub record Local (r : LockState) (k : MachineId) (c : ClientId) (old : AgentSlot) (v : Site) (gone qs rest : List Packet) : Type 0 where
+  pub frame : Frame r k old v gone rest
   pub waits : (d : ℕ) (m : Mode) → tally (waitingP d m) gone + queuedS d m old + waitF m (told r c (v .status) d)
       ≡ tally (waitingP d m) qs + queuedS d m (v .slot) + waitF m (statusAt r d)
   pub holds : (d : ℕ) → tally (listedP d) gone + listedS d old + holdF (told r c (v .status) d) + tally (owedP d) qs
@@ -122,47 +127,42 @@ pub record Local (r : LockState) (k : MachineId) (c : ClientId) (o : Owner) (old
   pub agent : tally agentP gone + agentS old ≡ tally agentP qs + agentS (v .slot)
   pub incs : (x : ℕ) → r .decider .incarnation ≡ (x + tally incarnationP gone + incarnationS old + tally markP gone) % 256
       → v .decider .incarnation ≡ (x + tally incarnationP qs + incarnationS (v .slot) + tally markP qs) % 256
-  pub modes : (d : ℕ) → clash o (told r c (v .status) d) ≡ 0
-  pub fitting : tally (misfitP o) qs ≡ 0
-  pub slot : misfitS o (k .0) (v .slot) ≡ 0
+  pub modes : (d : ℕ) → clash (r .decider .owner) (told r c (v .status) d) ≡ 0
+  pub fitting : tally (misfitP (r .decider .owner)) qs ≡ 0
+  pub slot : misfitS (r .decider .owner) (k .0) (v .slot) ≡ 0
   pub reach : tally farP qs ≡ 0
   pub vacancy : tally rejectedP rest + tally rejectedP qs + tally vacantS (set (r .agents) (k .0) (v .slot)) ≤ tally markP rest + tally markP qs
 
-module _ (r : LockState) (k : MachineId) (c : ClientId) (o : Owner) (old : AgentSlot) (v : Site) (gone qs rest : List Packet) (i : Inv r) (l : Local r k c o old v gone qs rest) where
-  keep-slots : (j : ℕ) → misfitS o j (slotAt (apply k c v qs rest r) j) ≡ 0
+module _ {r : LockState} {k : MachineId} {c : ClientId} {old : AgentSlot} {v : Site} {gone qs rest : List Packet} (i : Inv r) (l : Local r k c old v gone qs rest) where
+  keep-slots : (j : ℕ) → misfitS (r .decider .owner) j (slotAt (apply k c v qs rest r) j) ≡ 0
   keep-slots j = go (ℕ-discrete j (k .0))
     where
-      go : Dec (j ≡ k .0) → misfitS o j (slotAt (apply k c v qs rest r) j) ≡ 0
-      go (yes e) = rw e (rw (getD-set-same (r .agents) (k .0) (v .slot) noAgent (omega (arith, i .four, l .frame .machine))) (l .slot))
-      go (no n) = rw (getD-set-other (r .agents) (k .0) j (v .slot) noAgent n, ← l .frame .was) (i .homes j)
+      go : Dec (j ≡ k .0) → misfitS (r .decider .owner) j (slotAt (apply k c v qs rest r) j) ≡ 0
+      go (yes e) = rw e (rw (getD-set-same (r .agents) (k .0) (v .slot) noAgent (omega (arith, i .all-machines, l .frame .machine))) (l .slot))
+      go (no n) = rw (getD-set-other (r .agents) (k .0) j (v .slot) noAgent n) (i .homes j)
 
-  -- no misfit among the packets that stay
-  rest-fits : tally (misfitP o) rest ≡ 0
-  rest-fits = omega (arith, rw (l .frame .was) at (i .fitting), l .frame .split .parts (misfitP o))
-
-  pub keep : Inv (apply k c v qs rest r)
+  pub keep : Keeps r k c rest v qs
   keep =
-      keep-step r k c o old v gone qs rest i
+      keep-step i
       (record {
         split = l .frame .split;
         machine = l .frame .machine;
-        owner = l .frame .owner;
         seat = l .frame .seat;
         waits = l .waits;
         holds = l .holds;
         rels = l .rels;
-        agent = omega (arith, l .agent, ap ownedF (l .frame .was));
+        agent = omega (arith, l .agent, ap ownedF (l .frame .owner));
         incs = l .incs;
-        modes = l .modes;
-        fitting = omega (arith, rest-fits, l .fitting);
-        homes = keep-slots;
-        reach = omega (arith, l .reach, ap farF (l .frame .was), i .reach);
+        modes = λ d. rw (l .frame .owner) (l .modes d);
+        fitting = rw (l .frame .owner) (omega (arith, i .fitting, l .frame .split .parts (misfitP (r .decider .owner)), l .fitting));
+        homes = λ j. rw (l .frame .owner) (keep-slots j);
+        reach = omega (arith, l .reach, ap farF (l .frame .owner), i .reach);
         vacancy = l .vacancy;
       })
 
--- a step that changes no client
-pub record Calm (r : LockState) (k : MachineId) (c : ClientId) (o : Owner) (old : AgentSlot) (v : Site) (gone qs rest : List Packet) : Type 0 where
-  pub frame : Frame r k c o old v gone qs rest
+-- and that changes no client
+pub record Calm (r : LockState) (k : MachineId) (c : ClientId) (old : AgentSlot) (v : Site) (gone qs rest : List Packet) : Type 0 where
+  pub frame : Frame r k old v gone rest
   pub status : v .status ≡ statusAt r (c .0)
   pub waits : (d : ℕ) (m : Mode) → tally (waitingP d m) gone + queuedS d m old ≡ tally (waitingP d m) qs + queuedS d m (v .slot)
   pub holds : (d : ℕ) → tally (listedP d) gone + listedS d old + tally (owedP d) qs
@@ -171,18 +171,18 @@ pub record Calm (r : LockState) (k : MachineId) (c : ClientId) (o : Owner) (old 
   pub agent : tally agentP gone + agentS old ≡ tally agentP qs + agentS (v .slot)
   pub incs : (x : ℕ) → r .decider .incarnation ≡ (x + tally incarnationP gone + incarnationS old + tally markP gone) % 256
       → v .decider .incarnation ≡ (x + tally incarnationP qs + incarnationS (v .slot) + tally markP qs) % 256
-  pub fitting : tally (misfitP o) qs ≡ 0
-  pub slot : misfitS o (k .0) (v .slot) ≡ 0
+  pub fitting : tally (misfitP (r .decider .owner)) qs ≡ 0
+  pub slot : misfitS (r .decider .owner) (k .0) (v .slot) ≡ 0
   pub reach : tally farP qs ≡ 0
   pub vacancy : tally rejectedP rest + tally rejectedP qs + tally vacantS (set (r .agents) (k .0) (v .slot)) ≤ tally markP rest + tally markP qs
 
-module _ (r : LockState) (k : MachineId) (c : ClientId) (o : Owner) (old : AgentSlot) (v : Site) (gone qs rest : List Packet) (i : Inv r) (l : Calm r k c o old v gone qs rest) where
+module _ {r : LockState} {k : MachineId} {c : ClientId} {old : AgentSlot} {v : Site} {gone qs rest : List Packet} (i : Inv r) (l : Calm r k c old v gone qs rest) where
   told-same : (d : ℕ) → told r c (v .status) d ≡ statusAt r d
   told-same d = rw (l .status) (untold r c d)
 
-  pub keep-calm : Inv (apply k c v qs rest r)
+  pub keep-calm : Keeps r k c rest v qs
   keep-calm =
-      keep r k c o old v gone qs rest i
+      keep i
       (record {
         frame = l .frame;
         waits = λ d m. rw (told-same d) (omega (arith, l .waits d m));
@@ -190,7 +190,7 @@ module _ (r : LockState) (k : MachineId) (c : ClientId) (o : Owner) (old : Agent
         rels = λ d. rw (told-same d) (omega (arith, l .rels d, i .rels d, l .frame .split .parts (releaseP d)));
         agent = l .agent;
         incs = l .incs;
-        modes = λ d. rw (told-same d) (rw (l .frame .was) at (i .modes d));
+        modes = λ d. rw (told-same d) (i .modes d);
         fitting = l .fitting;
         slot = l .slot;
         reach = l .reach;
@@ -198,39 +198,44 @@ module _ (r : LockState) (k : MachineId) (c : ClientId) (o : Owner) (old : Agent
       })
 
 -- the vacancy, from the slot and the packets of the step alone
-pub vacancy-by : (r : LockState) (old new : AgentSlot) (k : ℕ) (gone rest sends : List Packet) → Inv r → Split r gone rest → k < 4 → slotAt r k ≡ old
+pub vacancy-by : {r : LockState} {old : AgentSlot} {k : MachineId} {gone rest : List Packet} (new : AgentSlot) (sends : List Packet) → Inv r → Split r gone rest → k .0 < machines → slotAt r (k .0) ≡ old
     → tally rejectedP sends + vacantS new + tally markP gone ≤ tally rejectedP gone + vacantS old + tally markP sends
-    → tally rejectedP rest + tally rejectedP sends + tally vacantS (set (r .agents) k new) ≤ tally markP rest + tally markP sends
+    → tally rejectedP rest + tally rejectedP sends + tally vacantS (set (r .agents) (k .0) new) ≤ tally markP rest + tally markP sends
 unfolding weight
-vacancy-by r old new k gone rest sends i sp kk e h =
-    omega (arith, i .vacancy, sp .parts markP, sp .parts rejectedP, rw e at (tally-set vacantS noAgent (r .agents) k new (omega (arith, i .four))))
+vacancy-by {r} {old} {k} new sends i sp kk e h =
+    omega (arith, i .vacancy, sp .parts markP, sp .parts rejectedP, rw e at (tally-set vacantS noAgent (r .agents) (k .0) new (omega (arith, i .all-machines))))
 
--- ---- a packet sent on to another address, rejected or as it was
+-- ---- the packet p sent on to another address, rejected or as it was
 pub same-mark : (r : LockState) (p : Packet) (rest : List Packet) → Inv r → Split r (p ∷ []) rest → rejectedP p + tally rejectedP rest + tally vacantS (r .agents) ≤ tally markP (packets (r .wire))
 unfolding weight tally
 same-mark r p rest i sp = omega (arith, i .vacancy, sp .parts rejectedP)
 
-module _ (r : LockState) (k : MachineId) (c : ClientId) (kk : k .0 < 4) (rest : List Packet) (i : Inv r) (m : Message) (t t′ : Address) (b b′ : Bool) (s : AgentSlot) where
-  abbrev pub came : Packet
-  came = record { message = m; to = t; rejected = b; carried = s }
+-- the site is as it was, as far as the invariant looks at it
+pub record Still (r : LockState) (k : MachineId) (c : ClientId) (v : Site) : Type 0 where
+  pub owner : v .decider .owner ≡ r .decider .owner
+  pub incarnation : v .decider .incarnation ≡ r .decider .incarnation
+  pub slot : v .slot ≡ slotAt r (k .0)
+  pub status : v .status ≡ statusAt r (c .0)
 
-  abbrev pub goes : Packet
-  goes = record { message = m; to = t′; rejected = b′; carried = s }
+pub still : {r : LockState} {k : MachineId} {c : ClientId} {x : AgentSlot} → slotAt r (k .0) ≡ x → Still r k c (withSlot (siteOf r k c) x)
+still es = record { owner = refl; incarnation = refl; slot = sym es; status = refl }
 
-  pub keep-sent-on : Split r (came ∷ []) rest → misfitP (r .decider .owner) goes ≡ 0 → flag b′ + tally rejectedP rest + tally vacantS (r .agents) ≤ tally markP (packets (r .wire)) → farA t′ ≡ 0 → Inv (apply k c (siteOf r k c) (goes ∷ []) rest r)
-  unfolding tally
-  keep-sent-on sp fit v fa =
-      keep-calm r k c (r .decider .owner) (slotAt r (k .0)) (siteOf r k c) (came ∷ []) (goes ∷ []) rest i
-      (record {
-        frame = framed sp kk refl refl refl;
-        status = refl;
-        waits = λ d m. refl;
-        holds = λ d. omega arith;
-        rels = λ d. omega arith;
-        agent = refl;
-        incs = λ x h. h;
-        fitting = omega arith;
-        slot = i .homes (k .0);
-        reach = omega (arith, fa);
-        vacancy = rw (set-getD (r .agents) (k .0) noAgent) (omega (arith, v, sp .parts markP));
-      })
+pub keep-resent : {r : LockState} {rest : List Packet} {k : MachineId} {c : ClientId} {v : Site} (i : Inv r) → Still r k c v → k .0 < machines → (p : Packet) (t : Address) (b : Bool)
+    → Split r (p ∷ []) rest → misfitP (r .decider .owner) (resent p t b) ≡ 0
+    → flag b + tally rejectedP rest + tally vacantS (r .agents) ≤ tally markP (packets (r .wire)) → farA t ≡ 0 → Keeps r k c rest v (resent p t b ∷ [])
+unfolding tally
+keep-resent {r} {k = k} i st kk p t b sp f v fa =
+    keep-calm i
+    (record {
+      frame = framed sp kk refl (st .owner);
+      status = st .status;
+      waits = λ d m. rw (st .slot);
+      holds = λ d. rw (st .slot) (omega arith);
+      rels = λ d. omega arith;
+      agent = rw (st .slot);
+      incs = λ x h. rw (st .incarnation, st .slot) h;
+      fitting = omega (arith, f);
+      slot = rw (st .slot) (i .homes (k .0));
+      reach = omega (arith, fa);
+      vacancy = rw (st .slot, set-getD (r .agents) (k .0) noAgent) (omega (arith, v, sp .parts markP));
+    })

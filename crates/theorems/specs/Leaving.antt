@@ -1,10 +1,10 @@
 -- A holder is removed from the agent's list, and the agent leaves if it is empty: by the client's release on the agent's machine, and
 -- by a RELEASE that is delivered there.
-use Rattle.theorems.specs.Names.{MachineId, ClientId, Mode, Waiter, Agent, AgentSlot, Free, Grant, Packet, Status, LockState, _≡_, refl, _∙_, Bool, true, false, true≢false, false≢true, List, [], _∷_, ℕ, _+_, _≤_, _<_, arith, length, getD, length-set, ne-eqb, lt-ltb, any, seated, listed, queueOf, waiters, noAgent, Site, withSlot, apply, changed, anyHolder, without, departing, lists, handOver, staysIf, leaves, waiters-of}
+use Rattle.theorems.specs.Names.{MachineId, ClientId, Mode, Waiter, Agent, AgentSlot, Free, Grant, Packet, Status, LockState, _≡_, refl, _∙_, Bool, true, false, true≢false, false≢true, List, [], _∷_, ℕ, _+_, _≤_, _<_, arith, length, getD, length-set, ne-eqb, lt-ltb, any, seated, listed, queueOf, waiters, noAgent, Site, withSlot, changed, anyHolder, without, departing, lists, handOver, staysIf, leaves, waiters-of, machines, clients, siteOf, withStatus}
 use Rattle.theorems.specs.Tally.{flag, tally, tally-set}
 use Rattle.theorems.specs.Weights.{statusAt, slotAt, weight, one, hit, askM, queuedS, waitingP, markM, listedS, listedP, owedM, owedP, releaseM, releaseP, agentS, agentP, incarnationS, incarnationP, markAll, markP, rejectedP, heads, vacantS, waitF, holdF, idleF, clash, farP, few, misfitS, fitsAway, fitsFree, fits, misfitP}
 use Rattle.theorems.specs.Invariant.{Inv}
-use Rattle.theorems.specs.Keep.{Split, told, framed, keep, vacancy-by}
+use Rattle.theorems.specs.Keep.{Keeps, Split, told, keep, vacancy-by, framed}
 use Rattle.theorems.specs.Sent.{Good}
 use Rattle.theorems.specs.Facts.{list-off, away-fits, Home, home-fits, seat-home, few-less, waiter-below, hit-self, in-slot}
 
@@ -32,11 +32,11 @@ some-listed [] e z = false≢true e
 some-listed (true ∷ hs) e z = omega arith
 some-listed (false ∷ hs) e z = some-listed hs e (omega arith)
 
-module _ (r : LockState) (i : Inv r) (k : MachineId) (kk : k .0 < 4) (a : Agent) (es : slotAt r (k .0) ≡ seated a) (c : ClientId) (cl : c .0 < 16)
+module _ (r : LockState) (i : Inv r) (k : MachineId) (kk : k .0 < machines) (a : Agent) (es : slotAt r (k .0) ≡ seated a) (c : ClientId) (cl : c .0 < clients)
     (li : listed a c ≡ true) (st : Status) (gone rest : List Packet) (le : Leaver r c st gone rest) where
   -- the site, with that status
   abbrev site : Site
-  site = record { decider = r .decider; slot = seated a; status = st }
+  site = withSlot (withStatus (siteOf r k c) st) (seated a)
 
   abbrev hs : List Bool
   hs = without a c
@@ -54,12 +54,12 @@ module _ (r : LockState) (i : Inv r) (k : MachineId) (kk : k .0 < 4) (a : Agent)
       → ((d : ℕ) → (tally (owedP d) qs ≡ 0) × (tally (releaseP d) qs ≡ 0))
       → tally agentP qs + agentS new ≡ 1 → tally incarnationP qs + incarnationS new ≡ a .incarnation → tally markP qs ≡ 0
       → tally (misfitP (r .decider .owner)) qs ≡ 0 → misfitS (r .decider .owner) (k .0) new ≡ 0 → tally farP qs ≡ 0 → tally rejectedP qs + vacantS new ≡ 0
-      → Inv (apply k c (withSlot site new) qs rest r)
+      → Keeps r k c rest (withSlot site new) qs
   unfolding listedS agentS incarnationS one
   keep-left new qs w l z h n ma f g fa v =
-      keep r k c (r .decider .owner) (seated a) (withSlot site new) gone qs rest i
+      keep i
       (record {
-        frame = framed (le .split) kk es refl refl;
+        frame = framed (le .split) kk es refl;
         waits = λ d m. omega (arith, w d m, le .waits d m);
         holds = λ d. omega (arith, l d, z d, le .lists d, le .holds d, list-off (a .holders) (c .0) d hl li);
         rels = λ d. omega (arith, z d, le .rels d);
@@ -69,7 +69,7 @@ module _ (r : LockState) (i : Inv r) (k : MachineId) (kk : k .0 < 4) (a : Agent)
         fitting = f;
         slot = g;
         reach = fa;
-        vacancy = vacancy-by r (seated a) new (k .0) gone rest qs i (le .split) kk es (omega (arith, v, ma, le .marks));
+        vacancy = vacancy-by new qs i (le .split) kk es (omega (arith, v, ma, le .marks));
       })
 
   -- a holder remains
@@ -90,7 +90,7 @@ module _ (r : LockState) (i : Inv r) (k : MachineId) (kk : k .0 < 4) (a : Agent)
   away no-one ws = away-fits _ (record { sized = length-set (a .holders) (c .0) false ∙ home .sized; empty = none-listed hs no-one; small = home .small })
 
   -- none remains: by the queue
-  keep-none : anyHolder hs ≡ false → (ws : List Waiter) → waiters (a .queue) ≡ ws → Inv (apply k c (withSlot site noAgent) (handOver a hs ws ∷ []) rest r)
+  keep-none : anyHolder hs ≡ false → (ws : List Waiter) → waiters (a .queue) ≡ ws → Keeps r k c rest (withSlot site noAgent) (handOver a hs ws ∷ [])
   unfolding handOver tally askM markM owedM releaseM markAll queuedS listedS agentS incarnationS vacantS misfitP misfitS fits fitsFree queueOf noAgent
   keep-none no-one [] q =
       keep-left noAgent (departing Free a hs [] ∷ []) (λ d n. rw (q, waiters-of [])) (λ d. omega arith) (λ d. (refl, refl)) refl (omega arith) refl
@@ -98,9 +98,9 @@ module _ (r : LockState) (i : Inv r) (k : MachineId) (kk : k .0 < 4) (a : Agent)
   keep-none no-one (w ∷ ws) q =
       let self : hit (w .client .0) (w .mode) (w .client) (w .mode) ≤ queuedS (w .client .0) (w .mode) (seated a) = rw q (omega arith) in
       let in-queue : queuedS (w .client .0) (w .mode) (seated a) ≤ weight (waitingP (w .client .0) (w .mode)) (queuedS (w .client .0) (w .mode)) r = in-slot r _ _ (k .0) (seated a) i kk es in
-      let wb : w .client .0 < 16 = waiter-below r (w .client .0) (w .mode) i (omega (arith, hit-self (w .client) (w .mode), self, in-queue)) in
+      let wb : w .client .0 < clients = waiter-below r (w .client .0) (w .mode) i (omega (arith, hit-self (w .client) (w .mode), self, in-queue)) in
       keep-left noAgent (departing (Grant (w .client) (w .mode)) a hs ws ∷ []) (λ d n. rw (q, waiters-of ws) (omega arith)) (λ d. omega arith) (λ d. (refl, refl)) refl (omega arith) refl
-      (rw (lt-ltb (w .client .0) 16 wb, home .mode, away no-one ws)) refl refl refl
+      (rw (lt-ltb (w .client .0) clients wb, home .mode, away no-one ws)) refl refl refl
 
   pub keep-leaves : Good r k c rest (leaves site a c)
   keep-leaves = go (anyHolder hs) refl

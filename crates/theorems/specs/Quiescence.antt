@@ -2,7 +2,7 @@
 use Rattle.laws.specs.Formed.{parts, agent-blank, wire-canonical}
 use Rattle.laws.specs.Shapes.{wire-whole}
 use Rattle.model.specs.WellFormed.{slotFormed}
-use Rattle.theorems.specs.Names.{Mode, Exclusive, Shared, Owner, Unowned, Owned, AgentSlot, Packet, Status, Idle, Waiting, Holding, ClientState, LockState, _≡_, refl, Bool, true, false, List, [], _∷_, ℕ, suc, _+_, arith, length, getD, replicate, eq-eqb, all, idle, noAgent, wireOf, packets, freshLock, lockFormed, and-left, and-right, bool-cases}
+use Rattle.theorems.specs.Names.{Mode, Exclusive, Shared, Owner, Unowned, Owned, AgentSlot, Packet, Status, Idle, Waiting, Holding, ClientState, LockState, _≡_, refl, Bool, true, false, List, [], _∷_, ℕ, suc, _+_, arith, length, getD, replicate, eq-eqb, all, idle, noAgent, wireOf, packets, freshLock, lockFormed, and-left, and-right, bool-cases, machines, clients}
 use Rattle.theorems.specs.Tally.{flag, tally, tally-none}
 use Rattle.theorems.specs.Weights.{statusAt, weight, queuedS, waitingP, listedS, listedP, owedP, agentS, agentP, markP, rejectedP, heads, vacantS, waitF, holdF, ownedF}
 use Rattle.theorems.specs.Invariant.{Inv}
@@ -76,15 +76,15 @@ module _ (r : LockState) (i : Inv r) (f : lockFormed r ≡ true) (empty : packet
   waiting-none d m =
       omega (arith, i .waits d m, only-seats (waitingP d m) (queuedS d m), tally-none agentS (queuedS d m) (λ x z. absent x (absent-of x z) .queuedS d m) (r .agents) no-agents)
 
-  agents : r .agents ≡ replicate 4 noAgent
-  agents = rw (i .four) at (blank-slots (r .agents) (parts r f .agents) no-agents)
+  agents : r .agents ≡ replicate machines noAgent
+  agents = rw (i .all-machines) at (blank-slots (r .agents) (parts r f .agents) no-agents)
 
-  clients : r .clients ≡ replicate 16 idle
-  clients = rw (i .sixteen) at (idle-clients (r .clients) (λ d. idle-is (statusAt r d) (omega (arith, waiting-none d Exclusive, waiting-none d Shared, nobody d))))
+  statuses-idle : r .clients ≡ replicate clients idle
+  statuses-idle = rw (i .all-clients) at (idle-clients (r .clients) (λ d. idle-is (statusAt r d) (omega (arith, waiting-none d Exclusive, waiting-none d Shared, nobody d))))
 
   wire : r .wire ≡ wireOf []
   wire = rw empty at (wire-whole (r .wire) (wire-canonical (r .wire) (parts r f .wire)))
 
   pub is-fresh : r ≡ freshLock
   unfolding freshLock
-  is-fresh = rw (owner, free-inc r i owner, agents, clients, wire)
+  is-fresh = rw (owner, free-inc r i owner, agents, statuses-idle, wire)

@@ -5,14 +5,14 @@ use mathlib.Core.Bool.{not, true≢false}
 use mathlib.Core.List.{List, [], _∷_}
 use Prim.Native.Nat.{ℕ, zero, suc}
 use native.Mathlib.Omega.{arith}
-use Rattle.theorems.specs.Names.{LockId, MachineId, Mode, Shared, Owned, AgentSlot, Cluster, Call, AcquireCall, DeliverCall, LockRange, Refusal, Answer, Accepted, Refused, Outcome, Malformed, LockState, Drained}
+use Rattle.theorems.specs.Names.{LockId, MachineId, Mode, Shared, Owned, AgentSlot, Cluster, Call, AcquireCall, DeliverCall, LockRange, Refusal, Answer, Accepted, Refused, Outcome, Malformed, LockState, Drained, true, false, locks, done}
 use lib.ListN.{length, getD}
 use lib.Dec.{leb}
 use Rattle.model.specs.States.{noAgent, wireOf, lockIn, freshLock}
 use Rattle.model.specs.WellFormed.{wellFormed}
 use Rattle.model.specs.Refusals.{_when_, first}
 use Rattle.model.specs.Calls.{perform, run, answersOf}
-use Rattle.model.specs.Drain.{Next, none, some, nextCall, Quiescent, Drainage, drainage, drainCalls, drainRefused, drainEnded, drainUnless, drain}
+use Rattle.model.specs.Drain.{allowance, Next, none, some, nextCall, Quiescent, Drainage, drainage, drainCalls, drainRefused, drainEnded, drainUnless, drain}
 use Rattle.laws.specs.Opened.{lockOf, perform-elsewhere}
 use Rattle.laws.specs.Next.{NextIs, delivers-first, releases-holder, next-is}
 use Rattle.theorems.specs.Scenarios.{Result, scenarios, scenarios-hold, machine, on, acquires0, delivers0, with0, d1, d3-rejected, d4}
@@ -136,14 +136,14 @@ refused-honest x l r = record { counted = λ e. absurd (apart r (sym e)); ended 
 
 drain-honest : (x : Cluster) (l : LockId) → Honest x l (drain x l)
 unfolding drain drainUnless drainEnded
-drain-honest x l = by-tests (first ((Malformed when not (wellFormed x)) ∷ (LockRange when leb 8 (l .0)) ∷ []))
+drain-honest x l = by-tests (first ((Malformed when not (wellFormed x)) ∷ (LockRange when leb locks (l .0)) ∷ []))
   where
-    by-end : (a : Answer) → drainage 16384 l x .answer ≡ a → Honest x l (drainEnded a x (drainage 16384 l x))
-    by-end Accepted e = record { counted = λ q. refl; ended = λ q. own 16384 l x .quiescent e; others = own 16384 l x .others }
+    by-end : (a : Answer) → drainage allowance l x .answer ≡ a → Honest x l (drainEnded a x (drainage allowance l x))
+    by-end Accepted e = record { counted = λ q. refl; ended = λ q. own allowance l x .quiescent e; others = own allowance l x .others }
     by-end (Refused r) e = refused-honest x l r
 
     by-tests : (a : Answer) → Honest x l (drainUnless a l x)
-    by-tests Accepted = by-end (drainage 16384 l x .answer) refl
+    by-tests Accepted = by-end (drainage allowance l x .answer) refl
     by-tests (Refused r) = refused-honest x l r
 
 -- so an invented step count, an early stop and a touched neighbour are each ruled out

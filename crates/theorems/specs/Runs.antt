@@ -1,7 +1,7 @@
 -- Calls and lists of calls: each keeps the invariant of every lock, and no call is refused with 9 to 14.
 use Rattle.laws.specs.Opened.{lockOf, stepOf, Allowed, may-acquire, may-release, may-deliver, Opened, denied, passed, opened, perform-here}
 use Rattle.laws.specs.Clusters.{fresh-formed, perform-formed, perform-keeps}
-use Rattle.theorems.specs.Names.{LockId, LockState, Cluster, Call, Refusal, Accepted, Outcome, _≡_, refl, ap, _∙_, true, List, [], _∷_, ℕ, zero, suc, _≤_, arith, getD, replicate, clientOf, modeOf, lockIn, freshLock, fresh, lockFormed, wellFormed, refusing, after, settled, perform, run, refusalNumber, number}
+use Rattle.theorems.specs.Names.{LockId, LockState, Cluster, Call, Refusal, Accepted, Outcome, _≡_, refl, ap, _∙_, true, List, [], _∷_, ℕ, zero, suc, _≤_, arith, getD, replicate, clientOf, modeOf, lockIn, freshLock, fresh, lockFormed, wellFormed, refusing, after, settled, perform, run, refusalNumber, number, locks}
 use Rattle.theorems.specs.Invariant.{Inv}
 use Rattle.theorems.specs.Fresh.{inv-fresh}
 use Rattle.theorems.specs.Steps.{Sound, sound-acquire, sound-release, sound-deliver}
@@ -26,7 +26,7 @@ same-lock (suc n) (suc d) = same-lock n d
 
 pub lock-fresh : (l : LockId) → lockIn fresh l ≡ freshLock
 unfolding fresh
-lock-fresh l = same-lock 8 (l .0)
+lock-fresh l = same-lock locks (l .0)
 
 pub reached-fresh : Reached fresh
 reached-fresh = record { formed = fresh-formed; invs = λ l. rw (lock-fresh l) inv-fresh }

@@ -6,13 +6,13 @@ use mathlib.Core.List.{List, [], _∷_}
 use Prim.Native.Nat.{ℕ}
 use lib.ListN.{set, replicate}
 use Rattle.model.specs.Lists.{padded, removed}
-use Rattle.theorems.specs.Names.{LockId, MachineId, ClientId, Mode, Exclusive, Shared, Owned, Decider, Waiter, Agent, AgentSlot, Address, ToDecider, ToMachine, Message, Free, Acquire, Grant, Release, Packet, Status, Waiting, Holding, ClientState, LockState, Cluster, Call, AcquireCall, ReleaseCall, DeliverCall, LockRange, StillNamed, Answer, Accepted, Refused}
-use Rattle.model.specs.States.{queueOf, waiters, noHolders, newAgent, seated, noAgent, idle, packet, blankPacket, wireOf, packets, freshLock}
+use Rattle.theorems.specs.Names.{LockId, MachineId, ClientId, Mode, Exclusive, Shared, Owned, Decider, Waiter, Agent, AgentSlot, ToDecider, ToMachine, Message, Free, Acquire, Grant, Release, Packet, Status, Waiting, Holding, ClientState, LockState, Cluster, Call, AcquireCall, ReleaseCall, DeliverCall, LockRange, StillNamed, Answer, Accepted, Refused, locks, machines, clients, carrying, resent, mayJoin, mayShare}
+use Rattle.model.specs.States.{queueOf, waiters, noHolders, newAgent, seated, noAgent, idle, plain, blankPacket, wireOf, packets, freshLock}
 use Rattle.model.specs.WellFormed.{shaped, isBlankWaiter, distinct, queueFormed, agentFormed, isBlankAgent, slotFormed, messageFormed, packetFormed, isBlankPacket, wireFormed, lockFormed, wellFormed}
 use Rattle.model.specs.Changes.{finish}
 use Rattle.model.specs.Asking.{asks, acquires, handOver, staysIf, releases}
 use Rattle.model.specs.AtDecider.{toOwner, decidesAcquire, decidesFree, decidesGrant, decides, atDecider}
-use Rattle.model.specs.AtMachine.{ofMode, admitted, staying, joined, installs, granted, marked, unmarked, acquired, released, returned, arrives, atMachine}
+use Rattle.model.specs.AtMachine.{admitted, staying, joined, installs, granted, marked, unmarked, acquired, released, returned, arrives, atMachine}
 use Rattle.model.specs.Refusals.{first}
 use Rattle.model.specs.Calls.{delivers, acquireStep, releaseStep, takes, deliverStep, settled, unless, acquire, release, deliver, perform, run, answersOf}
 
@@ -67,11 +67,12 @@ agent m cs n = record { mode = m; holders = list cs; queue = queueOf []; incarna
     list [] = noHolders
     list (c ∷ cs) = set (list cs) c true
 
-abbrev carrying : Message → Address → Bool → Agent → Packet
-carrying m t b a = record { message = m; to = t; rejected = b; carried = seated a }
+-- a rejected packet to the machine
+abbrev returning : Message → ℕ → Agent → Packet
+returning m k a = resent (carrying m ToDecider a) (ToMachine (machine k)) true
 
 abbrev nowhere : List AgentSlot
-nowhere = replicate 4 noAgent
+nowhere = replicate machines noAgent
 
 abbrev on0 : Agent → List AgentSlot
 on0 a = set nowhere 0 (seated a)
@@ -80,7 +81,7 @@ abbrev status : ℕ → Status → List ClientState → List ClientState
 status c st cs = set cs c (record { status = st })
 
 abbrev others : List ClientState
-others = replicate 16 idle
+others = replicate clients idle
 
 abbrev lock : Decider → List AgentSlot → List ClientState → List Packet → LockState
 lock d slots cs ps = record { decider = d; agents = slots; clients = cs; wire = wireOf ps }
@@ -101,17 +102,17 @@ firstAgent = agent Shared (0 ∷ []) 0
 
 -- D1: decider shared, machine 0, incarnation 0.
 abbrev pub d1 : LockState
-d1 = lock (owned Shared 0 0) nowhere (status 0 (Waiting Shared) others) (carrying (Grant (client 0) Shared) (ToMachine (machine 0)) false (newAgent Shared) ∷ [])
+d1 = lock (owned Shared 0 0) nowhere (status 0 (Waiting Shared) others) (carrying (Grant (client 0) Shared) (ToMachine (machine 0)) (newAgent Shared) ∷ [])
 
 -- the listing after record 3: 0/0 holds
 abbrev d1-held : LockState
 d1-held = lock (owned Shared 0 0) (on0 firstAgent) (status 0 (Holding Shared) others) []
 
 abbrev grantTo1 : Packet
-grantTo1 = packet (Grant (client 4) Shared) (ToMachine (machine 1))
+grantTo1 = plain (Grant (client 4) Shared) (ToMachine (machine 1))
 
 abbrev markedTo0 : Packet
-markedTo0 = packet (Acquire (client 4) Shared true) (ToMachine (machine 0))
+markedTo0 = plain (Acquire (client 4) Shared true) (ToMachine (machine 0))
 
 -- D2: wire is GRANT to 1, marked ACQUIRE to 0; decider's incarnation 1.
 abbrev d2 : LockState
@@ -122,11 +123,11 @@ waiting4 = status 4 (Waiting Shared) others
 
 -- D3: FREE with incarnation 0 at place 2.
 abbrev d3 : LockState
-d3 = lock (owned Shared 0 1) nowhere waiting4 (grantTo1 ∷ markedTo0 ∷ carrying Free ToDecider false (agent Shared [] 0) ∷ [])
+d3 = lock (owned Shared 0 1) nowhere waiting4 (grantTo1 ∷ markedTo0 ∷ carrying Free ToDecider (agent Shared [] 0) ∷ [])
 
 -- D3: delivered, it is turned back to machine 0.
 abbrev pub d3-rejected : LockState
-d3-rejected = lock (owned Shared 0 1) nowhere waiting4 (grantTo1 ∷ markedTo0 ∷ carrying Free (ToMachine (machine 0)) true (agent Shared [] 0) ∷ [])
+d3-rejected = lock (owned Shared 0 1) nowhere waiting4 (grantTo1 ∷ markedTo0 ∷ returning Free 0 (agent Shared [] 0) ∷ [])
 
 -- D4: an agent on machine 0, no holders.
 abbrev pub d4 : LockState
@@ -138,7 +139,7 @@ d5 = lock (owned Shared 0 1) (on0 (agent Shared (4 ∷ []) 1)) waiting4 (grantTo
 
 -- D6: the RELEASE is on its way back to the decider; 0/0 is still listed.
 abbrev d6 : LockState
-d6 = lock (owned Shared 0 1) (on0 firstAgent) (status 0 (Holding Shared) others) (markedTo0 ∷ packet (Release (client 4)) ToDecider ∷ [])
+d6 = lock (owned Shared 0 1) (on0 firstAgent) (status 0 (Holding Shared) others) (markedTo0 ∷ plain (Release (client 4)) ToDecider ∷ [])
 
 -- D8: 0/0 holds exclusively, 1/0 queued exclusively
 abbrev d8-queued : LockState
@@ -151,7 +152,7 @@ d8-queued =
 abbrev d8 : LockState
 d8 =
     lock (owned Exclusive 1 0) nowhere (status 4 (Waiting Exclusive) others)
-    (carrying (Grant (client 4) Exclusive) (ToMachine (machine 1)) false (agent Exclusive [] 0) ∷ [])
+    (carrying (Grant (client 4) Exclusive) (ToMachine (machine 1)) (agent Exclusive [] 0) ∷ [])
 
 -- D9: incarnation 255 at decider and agent
 abbrev d9-start : LockState
@@ -168,7 +169,7 @@ d9-agent = lock (owned Shared 0 0) (on0 (agent Shared (4 ∷ 0 ∷ []) 0)) (stat
 -- ---- the tempting faults
 -- a marked ACQUIRE that comes back is not granted again: no incarnation, no second GRANT
 abbrev f-marked : LockState
-f-marked = lock (owned Shared 0 1) nowhere waiting4 (grantTo1 ∷ carrying Free ToDecider false (agent Shared [] 0) ∷ markedTo0 ∷ [])
+f-marked = lock (owned Shared 0 1) nowhere waiting4 (grantTo1 ∷ carrying Free ToDecider (agent Shared [] 0) ∷ markedTo0 ∷ [])
 
 -- a local shared grant moves no incarnation
 abbrev f-local : LockState
@@ -177,12 +178,12 @@ f-local = lock (owned Shared 0 0) (on0 (agent Shared (1 ∷ 0 ∷ []) 0)) (statu
 -- an unmarked shared ACQUIRE at a shared agent
 abbrev f-unmarked : LockState
 f-unmarked =
-    lock (owned Shared 0 0) (on0 firstAgent) (status 4 (Waiting Shared) (status 0 (Holding Shared) others)) (packet (Acquire (client 4) Shared false) (ToMachine (machine 0)) ∷ [])
+    lock (owned Shared 0 0) (on0 firstAgent) (status 4 (Waiting Shared) (status 0 (Holding Shared) others)) (plain (Acquire (client 4) Shared false) (ToMachine (machine 0)) ∷ [])
 
 -- adds a holder and sends a GRANT for it
 abbrev f-granted : LockState
 f-granted =
-    lock (owned Shared 0 0) (on0 (agent Shared (4 ∷ 0 ∷ []) 0)) (status 4 (Waiting Shared) (status 0 (Holding Shared) others)) (packet (Grant (client 4) Shared) ToDecider ∷ [])
+    lock (owned Shared 0 0) (on0 (agent Shared (4 ∷ 0 ∷ []) 0)) (status 4 (Waiting Shared) (status 0 (Holding Shared) others)) (plain (Grant (client 4) Shared) ToDecider ∷ [])
 
 -- a rejected GRANT for 1/0, behind which 2/0 waits
 abbrev waits : ℕ → Waiter
@@ -193,7 +194,7 @@ asking = status 8 (Waiting Exclusive) (status 4 (Waiting Exclusive) others)
 
 abbrev f-rejected : LockState
 f-rejected =
-    lock (owned Shared 0 1) nowhere asking (carrying (Grant (client 4) Exclusive) (ToMachine (machine 0)) true (queue (waits 8 ∷ []) (agent Shared [] 0)) ∷ [])
+    lock (owned Shared 0 1) nowhere asking (returning (Grant (client 4) Exclusive) 0 (queue (waits 8 ∷ []) (agent Shared [] 0)) ∷ [])
 
 -- has its waiter back at the queue's front
 abbrev f-requeued : LockState
@@ -234,5 +235,5 @@ scenarios =
     ∷ []
 
 pub scenarios-hold : Hold scenarios
-unfolding scenarios run perform acquire release deliver unless settled first wellFormed lockFormed wireFormed packetFormed messageFormed slotFormed agentFormed isBlankAgent isBlankPacket isBlankWaiter queueFormed distinct shaped acquireStep releaseStep deliverStep takes finish delivers atDecider decides decidesAcquire decidesFree decidesGrant toOwner atMachine arrives acquired released returned marked unmarked granted installs admitted staying ofMode joined acquires asks releases staysIf handOver padded removed queueOf waiters noAgent blankPacket wireOf packets freshLock
+unfolding scenarios run perform acquire release deliver unless settled first wellFormed lockFormed wireFormed packetFormed messageFormed slotFormed agentFormed isBlankAgent isBlankPacket isBlankWaiter queueFormed distinct shaped acquireStep releaseStep deliverStep takes finish delivers atDecider decides decidesAcquire decidesFree decidesGrant toOwner atMachine arrives acquired released returned marked unmarked granted mayShare mayJoin installs admitted staying joined acquires asks releases staysIf handOver padded removed queueOf waiters noAgent blankPacket wireOf packets freshLock
 scenarios-hold = (refl, (refl, (refl, (refl, (refl, (refl, (refl, (refl, (refl, (refl, (refl, (refl, (refl, (refl, (refl, (refl, (refl, (refl, tt))))))))))))))))))

@@ -1,43 +1,45 @@
--- What a step must come to, packets sent on, and packets that never are on the wire.
-use Rattle.theorems.specs.Names.{MachineId, ClientId, Mode, Owner, Unowned, Agent, Address, ToDecider, ToMachine, Message, Free, Acquire, Grant, Release, Packet, LockState, _≡_, refl, Bool, true, false, and-false, true≢false, false≢true, List, [], _∷_, _<_, arith, pick, Verdict, cannot-place, does, siteOf, apply}
-use Rattle.theorems.specs.Weights.{farA, ownedShared, fits, misfitP}
+-- What a step must come to, packets sent on, packets that never are on the wire, and what a yes of the rules' two tests says.
+use Rattle.theorems.specs.Names.{_≡_, refl, MachineId, ClientId, Mode, Exclusive, Shared, Owner, Unowned, Agent, Address, ToDecider, ToMachine, Message, Free, Acquire, Grant, Release, Packet, Site, LockState, Bool, true, false, and-false, false≢true, List, arith, pick, machines, isShared, resent, Verdict, cannot-place, does, mayJoin, ownedShared, mayShare, and-left, and-right, [], _∷_, _<_}
+use Rattle.theorems.specs.Weights.{farA, fits, fitsP, misfitP}
 use Rattle.theorems.specs.Invariant.{Inv}
-use Rattle.theorems.specs.Keep.{Split, same-mark, keep-sent-on}
-use Rattle.theorems.specs.Facts.{came-fits}
+use Rattle.theorems.specs.Keep.{Keeps, Split, same-mark, Still, keep-resent}
+use Rattle.theorems.specs.Facts.{Request, acquire-of, release-of, came-fits}
 
 -- the step can be placed and keeps the invariant
 abbrev pub Good : LockState → MachineId → ClientId → List Packet → Verdict → Type 0
 Good r k c rest cannot-place = ⊥
-Good r k c rest (does v qs) = Inv (apply k c v qs rest r)
+Good r k c rest (does v qs) = Keeps r k c rest v qs
 
 -- by the test of a choice
-pub good-yes : (r : LockState) (k : MachineId) (c : ClientId) (rest : List Packet) (b : Bool) (v w : Verdict) → b ≡ true → Good r k c rest v → Good r k c rest (pick b v w)
-good-yes r k c rest true v w e g = g
-good-yes r k c rest false v w e g = absurd (false≢true e)
+pub good-by : (r : LockState) (k : MachineId) (c : ClientId) (rest : List Packet) (b : Bool) (v w : Verdict)
+    → (b ≡ true → Good r k c rest v) → (b ≡ false → Good r k c rest w) → Good r k c rest (pick b v w)
+good-by r k c rest true v w f g = f refl
+good-by r k c rest false v w f g = g refl
 
-pub good-no : (r : LockState) (k : MachineId) (c : ClientId) (rest : List Packet) (b : Bool) (v w : Verdict) → b ≡ false → Good r k c rest w → Good r k c rest (pick b v w)
-good-no r k c rest true v w e g = absurd (true≢false e)
-good-no r k c rest false v w e g = g
+-- ---- where a rule says that a request may share or join, lock or agent and request are shared
+pub shared-is : (m : Mode) → isShared m ≡ true → m ≡ Shared
+shared-is Exclusive e = absurd (false≢true e)
+shared-is Shared e = refl
 
--- a packet by its parts: message, address, rejected, whether an agent is carried, the agent
-abbrev pub made : Message → Address → Bool → Bool → Agent → Packet
-made m t b x a = record { message = m; to = t; rejected = b; carried = record { present = x; agent = a } }
+pub may-share : (v : Site) (m : Mode) → mayShare v m ≡ true → (ownedShared (v .decider .owner) ≡ true) × (m ≡ Shared)
+unfolding mayShare
+may-share v m e = (and-left (ownedShared (v .decider .owner)) _ e, shared-is m (and-right (ownedShared (v .decider .owner)) _ e))
 
-module _ (t t′ : Address) (b : Bool) (a : Agent) where
-  -- what fits at one address fits at another
-  pub plain-any : (m : Message) (o : Owner) → fits o false t b a m ≡ fits o false t′ b a m
+pub may-join : (v : Site) (m : Mode) → mayJoin v m ≡ true → (v .slot .agent .mode ≡ Shared) × (m ≡ Shared)
+unfolding mayJoin
+may-join v m e = (shared-is _ (and-left (isShared (v .slot .agent .mode)) _ e), shared-is m (and-right (isShared (v .slot .agent .mode)) _ e))
+
+-- ---- what fits at one address fits at another
+module _ (t t′ : Address) (b : Bool) (a : Agent) (o : Owner) where
+  pub plain-any : (m : Message) → fits o false t b a m ≡ fits o false t′ b a m
   unfolding fits
-  plain-any m o = refl
+  plain-any m = refl
 
-  pub acquire-any : (x : Bool) (c : ClientId) (n : Mode) (g : Bool) (o : Owner) → fits o x t b a (Acquire c n g) ≡ fits o x t′ b a (Acquire c n g)
+  pub request-any : {c : ClientId} {m : Message} (x : Bool) → Request c m → fits o x t b a m ≡ fits o x t′ b a m
   unfolding fits
-  acquire-any true c n g o = refl
-  acquire-any false c n g o = refl
-
-  pub release-any : (x : Bool) (c : ClientId) (o : Owner) → fits o x t b a (Release c) ≡ fits o x t′ b a (Release c)
-  unfolding fits
-  release-any true c o = refl
-  release-any false c o = refl
+  request-any true acquire-of = refl
+  request-any true release-of = refl
+  request-any false q = refl
 
 -- ---- what never fits
 module _ (x : Bool) (t : Address) (b : Bool) (a : Agent) where
@@ -73,16 +75,14 @@ pub no-freed : (b : Bool) (a : Agent) → fits Unowned true ToDecider b a Free �
 unfolding fits
 no-freed b a = simp and-false
 
-module _ (r : LockState) (rest : List Packet) (i : Inv r) where
-  pub impossible : {A : Type 0} (p : Packet) → Split r (p ∷ []) rest
-      → fits (r .decider .owner) (p .carried .present) (p .to) (p .rejected) (p .carried .agent) (p .message) ≡ false → A
+module _ {r : LockState} {rest : List Packet} (i : Inv r) where
+  pub impossible : {A : Type 0} {p : Packet} → Split r (p ∷ []) rest → fitsP (r .decider .owner) p ≡ false → A
   unfolding misfitP
-  impossible p sp f = absurd (omega (arith, rw f at (came-fits r rest p i sp)))
+  impossible {p = p} sp f = absurd (omega (arith, rw f at (came-fits r rest p i sp)))
 
   -- a packet whose fitting does not turn on its address
-  pub keep-on : (k : MachineId) (c : ClientId) → k .0 < 4 → (m : Message) (t t′ : Address) (b x : Bool) (a : Agent)
-      → ((o : Owner) → fits o x t b a m ≡ fits o x t′ b a m) → farA t′ ≡ 0 → Split r (made m t b x a ∷ []) rest
-      → Inv (apply k c (siteOf r k c) (made m t′ b x a ∷ []) rest r)
+  pub keep-on : {k : MachineId} {c : ClientId} {v : Site} → Still r k c v → k .0 < machines → (p : Packet) (t : Address)
+      → ((o : Owner) → fitsP o p ≡ fitsP o (resent p t (p .rejected))) → farA t ≡ 0 → Split r (p ∷ []) rest
+      → Keeps r k c rest v (resent p t (p .rejected) ∷ [])
   unfolding misfitP
-  keep-on k c kk m t t′ b x a e fa sp =
-      keep-sent-on r k c kk rest i m t t′ b b (record { present = x; agent = a }) sp (rw (e (r .decider .owner)) at (came-fits r rest _ i sp)) (same-mark r _ rest i sp) fa
+  keep-on st kk p t e fa sp = keep-resent i st kk p t (p .rejected) sp (rw (e (r .decider .owner)) at (came-fits r rest p i sp)) (same-mark r p rest i sp) fa

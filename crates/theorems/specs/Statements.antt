@@ -3,7 +3,7 @@
 use Rattle.laws.specs.Opened.{lockOf}
 use Rattle.model.specs.Drain.{allowance, Quiescent, drainCalls, drain}
 use Rattle.model.specs.Trace.{isAccepted, grantsIn}
-use Rattle.theorems.specs.Names.{LockId, ClientId, Mode, Exclusive, Status, Waiting, Holding, Cluster, Call, Answer, Accepted, _≡_, true, List, ℕ, _≤_, _<_, length, eqb, leb, all, statusOf, lockIn, packets, freshLock, fresh, wellFormed, current, packetAt, run, answersOf, after, perform, number, phaseAfter}
+use Rattle.theorems.specs.Names.{LockId, ClientId, Mode, Exclusive, Status, Waiting, Holding, Cluster, Call, Answer, Accepted, _≡_, true, List, ℕ, _≤_, _<_, length, eqb, leb, all, statusOf, lockIn, packets, freshLock, fresh, wellFormed, current, packetAt, run, answersOf, after, perform, number, phaseAfter, _+_, _-_, _*_, locks, clients, wireCapacity}
 use Rattle.theorems.specs.Tally.{tally}
 use Rattle.theorems.specs.Weights.{markP}
 
@@ -17,7 +17,7 @@ NeverRefusedInside cs = all (λ (a : Answer). leb (number a) 8) (answersOf cs fr
 
 -- The wire: at most 33 packets.
 abbrev pub WireBounded : List Call → Type 0
-WireBounded cs = (l : LockId) → length (packets (lockIn (after cs) l .wire)) ≤ 33
+WireBounded cs = (l : LockId) → length (packets (lockIn (after cs) l .wire)) ≤ wireCapacity
 
 -- A lock's record is all that the bench has for it: a further call leaves the records of the other locks as they were.
 abbrev pub OthersUntouched : List Call → Type 0
@@ -38,6 +38,10 @@ abbrev pub ExclusionOfTrace : List Call → Type 0
 ExclusionOfTrace cs =
     (l : LockId) (c d : ClientId) (m : Mode) → (c .0 ≡ d .0 → ⊥) → phaseAfter l c cs ≡ Holding Exclusive → phaseAfter l d cs ≡ Holding m → ⊥
 
+-- The steps that a drain takes at most, as proved: 7 for each client and 2 for the agent, and before each of these fewer than three rounds of the wire.
+abbrev pub provedBound : ℕ
+provedBound = (7 * clients + 2) * (3 * wireCapacity) + (3 * wireCapacity - 1)
+
 -- A drain of the lock l on the cluster x, in which each client's phase is given.
 pub record Drains (x : Cluster) (l : LockId) (phase : ClientId → Status) : Type 0 where
   -- It answers 0; its steps are these same calls, none refused, and it returns the bench and the number of steps taken.
@@ -45,9 +49,9 @@ pub record Drains (x : Cluster) (l : LockId) (phase : ClientId → Status) : Typ
   pub counted : drain x l .count ≡ length (drainCalls l x)
   pub runs : drain x l .cluster ≡ run (drainCalls l x) x
   pub accepted : all isAccepted (answersOf (drainCalls l x) x) ≡ true
-  -- It ends within 16,384 steps, and in truth within 114 · 99 + 98.
+  -- It ends within 16,384 steps, and in truth within 11,384.
   pub allowed : drain x l .count ≤ allowance
-  pub bounded : drain x l .count ≤ 11384
+  pub bounded : drain x l .count ≤ provedBound
   -- At its end the lock is at rest, its record is that of a fresh bench, and the records of the other locks are as they were.
   pub quiescent : Quiescent l (lockIn (drain x l .cluster) l)
   pub fresh : lockIn (drain x l .cluster) l ≡ freshLock
@@ -60,11 +64,11 @@ pub record Drains (x : Cluster) (l : LockId) (phase : ClientId → Status) : Typ
 pub record Demand3 (cs : List Call) : Type 0 where
   pub trace : TraceAgrees cs
   pub exclusion : ExclusionOfTrace cs
-  pub drains : (l : LockId) → l .0 < 8 → Drains (after cs) l (λ c. phaseAfter l c cs)
+  pub drains : (l : LockId) → l .0 < locks → Drains (after cs) l (λ c. phaseAfter l c cs)
 
 -- The incarnation has eight bits; equality stays sound because at most 16 marked copies are outstanding: wherever an agent is in a
 -- packet, the incarnations are equal exactly when no marked ACQUIRE is on the wire.
 pub record IncarnationSound (cs : List Call) : Type 0 where
-  pub bounded : (l : LockId) → tally markP (packets (lockIn (after cs) l .wire)) ≤ 16
+  pub bounded : (l : LockId) → tally markP (packets (lockIn (after cs) l .wire)) ≤ clients
   pub sound : (l : LockId) (i : ℕ) → i < length (packets (lockIn (after cs) l .wire)) → packetAt (lockIn (after cs) l) i .carried .present ≡ true
       → current (lockIn (after cs) l .decider) (packetAt (lockIn (after cs) l) i) ≡ eqb (tally markP (packets (lockIn (after cs) l .wire))) 0

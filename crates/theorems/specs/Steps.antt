@@ -1,21 +1,21 @@
 -- Every step that a call makes is accepted and keeps the invariant: no refusal 9, no refusal 10.
-use Rattle.theorems.specs.Names.{MachineId, ClientId, Mode, Agent, Address, ToDecider, ToMachine, Message, Packet, Idle, Holding, LockState, Accepted, Stepped, _≡_, refl, ap, Bool, true, false, List, [], _∷_, _++_, ℕ, _+_, _≤_, _<_, arith, length, length-append, leb, ltb, ltb-true, le-leb, any, removed, agentOn, statusOf, blankPacket, packets, Site, siteOf, Verdict, cannot-place, does, apply, finish, atDecider, atMachine, names, machineAt, clientNamed, packetAt, delivers, acquireStep, releaseStep, takes, deliverStep, packets-of}
+use Rattle.theorems.specs.Names.{MachineId, ClientId, Mode, Address, ToDecider, ToMachine, Packet, Idle, Holding, LockState, Accepted, Stepped, _≡_, refl, ap, true, false, List, [], _∷_, _++_, ℕ, _+_, _≤_, _<_, arith, length, length-append, leb, ltb, ltb-true, le-leb, any, removed, agentOn, statusOf, blankPacket, packets, Site, siteOf, Verdict, cannot-place, does, apply, finish, atDecider, atMachine, names, machineAt, clientNamed, packetAt, delivers, acquireStep, releaseStep, takes, deliverStep, packets-of, machines, clients, wireCapacity, inParts, Bool, pick}
 use Rattle.theorems.specs.Tally.{tally-at}
 use Rattle.theorems.specs.Weights.{farM, farA, farP}
 use Rattle.theorems.specs.Invariant.{Inv}
 use Rattle.theorems.specs.Keep.{Split, split-at}
 use Rattle.theorems.specs.Facts.{fit, wire-bound}
-use Rattle.theorems.specs.Sent.{Good, made}
+use Rattle.theorems.specs.Sent.{Good}
 use Rattle.theorems.specs.AtDecider.{good-decides}
 use Rattle.theorems.specs.AtMachine.{good-arrives}
 use Rattle.theorems.specs.Clients.{names-none, good-acquires, good-releases}
 
-good-delivers : (r : LockState) (rest : List Packet) (i : Inv r) (t : Address) (m : Message) (b x : Bool) (a : Agent) → farA t ≡ 0 → Split r (made m t b x a ∷ []) rest
-    → Good r (machineAt t) (clientNamed m) rest (delivers t (siteOf r (machineAt t) (clientNamed m)) (made m t b x a))
+good-delivers : (r : LockState) (rest : List Packet) (i : Inv r) (p : Packet) (t : Address) → farA t ≡ 0 → Split r (inParts (p .message) t (p .rejected) (p .carried .present) p ∷ []) rest
+    → Good r (machineAt t) (clientNamed (p .message)) rest (delivers t (siteOf r (machineAt t) (clientNamed (p .message))) (inParts (p .message) t (p .rejected) (p .carried .present) p))
 unfolding delivers atDecider atMachine farM
-good-delivers r rest i ToDecider m b x a e sp = good-decides r rest i _ (clientNamed m) (omega arith) m (r .decider .owner) b x a refl sp
-good-delivers r rest i (ToMachine k) m b x a e sp =
-    good-arrives r rest i k (ltb-true (k .0) 4 (fit (ltb (k .0) 4) e)) (agentOn r k .agent) m (agentOn r k .present) b x a refl sp
+good-delivers r rest i p ToDecider e sp = good-decides r rest i _ (clientNamed (p .message)) (omega arith) p (p .message) (r .decider .owner) (p .carried .present) refl sp
+good-delivers r rest i p (ToMachine k) e sp =
+    good-arrives r rest i k (ltb-true (k .0) machines (fit (ltb (k .0) machines) e)) (agentOn r k .agent) p (p .message) (agentOn r k .present) (p .rejected) (p .carried .present) refl sp
 
 -- what the delivery of a packet comes to
 abbrev pub verdict : LockState → Packet → Verdict
@@ -26,7 +26,7 @@ pub good-deliver : (r : LockState) (i : Inv r) (j : ℕ) → j < length (packets
     → Good r (machineAt (packetAt r j .to)) (clientNamed (packetAt r j .message)) (removed (packets (r .wire)) j) (verdict r (packetAt r j))
 good-deliver r i j h =
     let p : Packet = packetAt r j in
-    good-delivers r (removed (packets (r .wire)) j) i (p .to) (p .message) (p .rejected) (p .carried .present) (p .carried .agent)
+    good-delivers r (removed (packets (r .wire)) j) i p (p .to)
     (omega (arith, i .reach, tally-at farP blankPacket (packets (r .wire)) j h)) (split-at r j p h refl)
 
 -- ---- from a good verdict to the step
@@ -39,28 +39,33 @@ abbrev pub Says : (Site → List Packet → Type 0) → Verdict → Type 0
 Says P cannot-place = Unit {0}
 Says P (does v qs) = P v qs
 
+-- by a test, whatever it says
+pub says-by : (P : Site → List Packet → Type 0) (b : Bool) (v w : Verdict) → Says P v → Says P w → Says P (pick b v w)
+says-by P true v w f g = f
+says-by P false v w f g = g
+
 module _ (k : MachineId) (c : ClientId) where
-  room-after : (v : Site) (qs rest : List Packet) (r : LockState) → Inv (apply k c v qs rest r) → length rest + length qs ≤ 33
+  room-after : (v : Site) (qs rest : List Packet) (r : LockState) → Inv (apply k c v qs rest r) → length rest + length qs ≤ wireCapacity
   room-after v qs rest r i = omega (arith, wire-bound (apply k c v qs rest r) i, ap length (packets-of (rest ++ qs)), length-append rest qs)
 
   pub after-step : (P : Site → List Packet → Type 0) (Q : LockState → Type 0) (w : Verdict) (rest : List Packet) (r : LockState) → Good r k c rest w → Says P w
       → ((v : Site) (qs : List Packet) → P v qs → Q (apply k c v qs rest r)) → Q (finish k c w rest r .state)
   unfolding finish
   after-step P Q cannot-place rest r g p q = absurd g
-  after-step P Q (does v qs) rest r g p q = let e : leb (length rest + length qs) 33 ≡ true = le-leb _ 33 (room-after v qs rest r g) in rw e (q v qs p)
+  after-step P Q (does v qs) rest r g p q = let e : leb (length rest + length qs) wireCapacity ≡ true = le-leb _ wireCapacity (room-after v qs rest r (g .inv)) in rw e (q v qs p)
 
   sound : (w : Verdict) (rest : List Packet) (r : LockState) → Good r k c rest w → Sound (finish k c w rest r)
   unfolding finish
   sound cannot-place rest r g = absurd g
   sound (does v qs) rest r g =
-      let e : leb (length rest + length qs) 33 ≡ true = le-leb _ 33 (room-after v qs rest r g) in
-      rw e (record { taken = refl; inv = g })
+      let e : leb (length rest + length qs) wireCapacity ≡ true = le-leb _ wireCapacity (room-after v qs rest r (g .inv)) in
+      rw e (record { taken = refl; inv = g .inv })
 
-pub sound-acquire : (r : LockState) (i : Inv r) (c : ClientId) (m : Mode) → c .0 < 16 → statusOf r c ≡ Idle → any (names c) (packets (r .wire)) ≡ false → Sound (acquireStep r c m)
+pub sound-acquire : (r : LockState) (i : Inv r) (c : ClientId) (m : Mode) → c .0 < clients → statusOf r c ≡ Idle → any (names c) (packets (r .wire)) ≡ false → Sound (acquireStep r c m)
 unfolding acquireStep
 sound-acquire r i c m cl id u = sound _ _ _ (packets (r .wire)) r (good-acquires r i c cl id (names-none c (packets (r .wire)) u) m)
 
-pub sound-release : (r : LockState) (i : Inv r) (c : ClientId) (m : Mode) → c .0 < 16 → statusOf r c ≡ Holding m → Sound (releaseStep r c)
+pub sound-release : (r : LockState) (i : Inv r) (c : ClientId) (m : Mode) → c .0 < clients → statusOf r c ≡ Holding m → Sound (releaseStep r c)
 unfolding releaseStep
 sound-release r i c m cl ho = sound _ _ _ (packets (r .wire)) r (good-releases r i c cl m ho)
 

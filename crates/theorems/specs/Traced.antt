@@ -1,19 +1,19 @@
 -- The statuses are what the trace says: which client's status each step writes, and as what.
 use Rattle.laws.specs.Opened.{lockOf, stepOf, Allowed, may-acquire, may-release, may-deliver, perform-elsewhere}
-use Rattle.theorems.specs.Names.{LockId, MachineId, ClientId, Mode, Owner, Unowned, Owned, Agent, AgentSlot, Address, ToDecider, ToMachine, Message, Free, Acquire, Grant, Release, Packet, Status, Idle, Waiting, Holding, ClientState, LockState, Cluster, Call, AcquireCall, ReleaseCall, DeliverCall, WireFull, _≡_, refl, sym, ap, _∙_, Bool, true, false, _&&_, not, and-false, List, [], _∷_, ℕ, _+_, _<_, _/_, arith, ℕ-discrete, length, getD, set-getD, getD-set-same, getD-set-other, leb, eq-eqb, ne-eqb, pick, any, removed, clientOf, machineOf, modeOf, isShared, seated, agentOn, listed, idle, statusOf, packet, lockIn, noAgent, packets, Verdict, cannot-place, does, Site, siteOf, withSlot, withStatus, apply, accepted, finish, anyHolder, without, staysIf, joining, queuing, noRoom, mayJoin, lists, asks, acquires, releases, current, toOwner, decidesAcquire, decidesFree, decidesGrant, decides, atDecider, installs, granted, marked, unmarked, acquired, released, returned, arrives, atMachine, names, machineAt, clientNamed, packetAt, delivers, acquireStep, releaseStep, takes, deliverStep, perform, run, View, isAccepted, toMachine, isGrantFor, grants, asked, shown, sees, watch, bool-cases}
+use Rattle.theorems.specs.Names.{LockId, MachineId, ClientId, Mode, Owner, Unowned, Owned, Agent, AgentSlot, Address, ToDecider, ToMachine, Message, Free, Acquire, Grant, Release, Packet, Status, Idle, Waiting, Holding, ClientState, LockState, Cluster, Call, AcquireCall, ReleaseCall, DeliverCall, WireFull, _≡_, refl, sym, ap, _∙_, Bool, true, false, _&&_, not, and-false, List, [], _∷_, ℕ, _+_, _<_, arith, ℕ-discrete, length, getD, set-getD, getD-set-same, getD-set-other, leb, eq-eqb, ne-eqb, pick, any, removed, clientOf, machineOf, modeOf, isShared, seated, agentOn, listed, idle, statusOf, plain, lockIn, noAgent, packets, Verdict, cannot-place, does, Site, siteOf, withSlot, withStatus, apply, accepted, finish, anyHolder, without, staysIf, joining, queuing, noRoom, mayJoin, lists, asks, acquires, releases, current, toOwner, decidesAcquire, decidesFree, decidesGrant, decides, atDecider, installs, granted, marked, unmarked, acquired, released, returned, arrives, atMachine, names, machineAt, clientNamed, packetAt, delivers, acquireStep, releaseStep, takes, deliverStep, perform, run, View, isAccepted, toMachine, isGrantFor, grants, asked, shown, sees, watch, bool-cases, clients, wireCapacity, inParts, mayShare}
 use Rattle.model.specs.Changes.{refused}
 use Rattle.theorems.specs.Tally.{tally, tally-at}
 use Rattle.theorems.specs.Weights.{statusAt, slotAt, weight, askM, waitingP, listedS}
 use Rattle.theorems.specs.Invariant.{Inv}
 use Rattle.theorems.specs.Keep.{Split, split-at, told, untold}
 use Rattle.theorems.specs.Facts.{flag-none, seat-home, waiter-below, hit-self, grant-waits, rejected-carries-one}
-use Rattle.theorems.specs.Sent.{Good, made}
+use Rattle.theorems.specs.Sent.{Good}
 use Rattle.theorems.specs.Clients.{names-none, unlisted, good-acquires, good-releases}
-use Rattle.theorems.specs.Steps.{verdict, good-deliver, Says, after-step}
+use Rattle.theorems.specs.Steps.{verdict, good-deliver, Says, says-by, after-step}
 use Rattle.theorems.specs.Runs.{Reached, reached-next, Answered, answered, denied-by, accepted-by}
 
 -- ---- the status of a client after a step that is about client c
-told-self : (s : LockState) (c : ClientId) (st : Status) → length (s .clients) ≡ 16 → c .0 < 16 → told s c st (c .0) ≡ st
+told-self : (s : LockState) (c : ClientId) (st : Status) → length (s .clients) ≡ clients → c .0 < clients → told s c st (c .0) ≡ st
 told-self s c st l b = ap (λ (x : ClientState). x .status) (getD-set-same (s .clients) (c .0) (record { status = st }) idle (omega (arith, l)))
 
 told-other : (s : LockState) (c : ClientId) (st : Status) (d : ClientId) → (d .0 ≡ c .0 → ⊥) → told s c st (d .0) ≡ statusOf s d
@@ -23,14 +23,14 @@ told-other s c st d n = ap (λ (x : ClientState). x .status) (getD-set-other (s 
 finish-other : (k : MachineId) (c : ClientId) (w : Verdict) (rest : List Packet) (s : LockState) (d : ClientId) → (d .0 ≡ c .0 → ⊥) → statusOf (finish k c w rest s .state) d ≡ statusOf s d
 unfolding finish
 finish-other k c cannot-place rest s d n = refl
-finish-other k c (does v qs) rest s d n = go (leb (length rest + length qs) 33)
+finish-other k c (does v qs) rest s d n = go (leb (length rest + length qs) wireCapacity)
   where
     go : (b : Bool) → statusOf (pick b (accepted (apply k c v qs rest s)) (refused WireFull s) .state) d ≡ statusOf s d
     go true = told-other s c (v .status) d n
     go false = refl
 
 -- ---- acquire
-module _ (s : LockState) (i : Inv s) (c : ClientId) (cl : c .0 < 16) (id : statusOf s c ≡ Idle) (un : any (names c) (packets (s .wire)) ≡ false) (m : Mode) where
+module _ (s : LockState) (i : Inv s) (c : ClientId) (cl : c .0 < clients) (id : statusOf s c ≡ Idle) (un : any (names c) (packets (s .wire)) ≡ false) (m : Mode) where
   abbrev ps : List Packet
   ps = packets (s .wire)
 
@@ -57,38 +57,38 @@ module _ (s : LockState) (i : Inv s) (c : ClientId) (cl : c .0 < 16) (id : statu
   waits-on false v = refl
 
   now : (st : Status) → told s c st (c .0) ≡ st
-  now st = told-self s c st (i .sixteen) cl
+  now st = told-self s c st (i .all-clients) cl
 
   not-listed : lists-home s ≡ false
   unfolding listedS weight
   not-listed = go (agentOn s (machineOf c) .present) (agentOn s (machineOf c) .agent) refl
     where
-      go : (y : Bool) (h : Agent) → slotAt s (c .0 / 4) ≡ record { present = y; agent = h } → lists (record { present = y; agent = h }) c ≡ false
+      go : (y : Bool) (h : Agent) → slotAt s (machineOf c .0) ≡ record { present = y; agent = h } → lists (record { present = y; agent = h }) c ≡ false
       go false h e = refl
       go true h e =
           flag-none (listed h c)
-          (omega (arith, unlisted s i c cl id (names-none c ps un), rw e at (tally-at (listedS (c .0)) noAgent (s .agents) (c .0 / 4) (omega (arith, i .four)))))
+          (omega (arith, unlisted s i c cl id (names-none c ps un), rw e at (tally-at (listedS (c .0)) noAgent (s .agents) (machineOf c .0) (omega (arith, i .all-machines)))))
 
   module _ (v : View) (h : Agent) (e : agentOn s (machineOf c) ≡ seated h) where
-    four : c .0 / 4 < length (s .agents)
-    four = omega (arith, i .four)
+    room : machineOf c .0 < length (s .agents)
+    room = omega (arith, i .all-machines)
 
     joined-now : Now v (then (withSlot (withStatus site (Holding m)) (seated (joining h c))) [])
     joined-now =
-        let hl : c .0 < length (h .holders) = omega (arith, seat-home s (c .0 / 4) h i e .sized) in
+        let hl : c .0 < length (h .holders) = omega (arith, seat-home s (machineOf c .0) h i e .sized) in
         let on : lists-home (then (withSlot (withStatus site (Holding m)) (seated (joining h c))) []) ≡ true =
-        ap (λ (x : AgentSlot). lists x c) (getD-set-same (s .agents) (c .0 / 4) (seated (joining h c)) noAgent four) ∙ getD-set-same (h .holders) (c .0) true false hl in
+        ap (λ (x : AgentSlot). lists x c) (getD-set-same (s .agents) (machineOf c .0) (seated (joining h c)) noAgent room) ∙ getD-set-same (h .holders) (c .0) true false hl in
         rw (on, not-listed) (sym (now (Holding m)))
 
     queued-now : Now v (then (withSlot (withStatus site (Waiting m)) (seated (queuing h c m))) [])
     queued-now =
         let same : lists-home (then (withSlot (withStatus site (Waiting m)) (seated (queuing h c m))) []) ≡ lists-home s =
-        ap (λ (x : AgentSlot). lists x c) (getD-set-same (s .agents) (c .0 / 4) (seated (queuing h c m)) noAgent four) ∙ sym (ap (λ (x : AgentSlot). lists x c) e) in
+        ap (λ (x : AgentSlot). lists x c) (getD-set-same (s .agents) (machineOf c .0) (seated (queuing h c m)) noAgent room) ∙ sym (ap (λ (x : AgentSlot). lists x c) e) in
         rw same (waits-on (lists-home s) v ∙ sym (now (Waiting m)))
 
-  sent-now : (v : View) → Now v (then (withStatus site (Waiting m)) (packet (Acquire c m false) ToDecider ∷ []))
+  sent-now : (v : View) → Now v (then (withStatus site (Waiting m)) (plain (Acquire c m false) ToDecider ∷ []))
   sent-now v =
-      let same : lists-home (then (withStatus site (Waiting m)) (packet (Acquire c m false) ToDecider ∷ [])) ≡ lists-home s = ap (λ (xs : List AgentSlot). lists (getD xs (c .0 / 4) noAgent) c) (set-getD (s .agents) (c .0 / 4) noAgent) in
+      let same : lists-home (then (withStatus site (Waiting m)) (plain (Acquire c m false) ToDecider ∷ [])) ≡ lists-home s = ap (λ (xs : List AgentSlot). lists (getD xs (machineOf c .0) noAgent) c) (set-getD (s .agents) (machineOf c .0) noAgent) in
       rw same (waits-on (lists-home s) v ∙ sym (now (Waiting m)))
 
   acquire-now : (v : View) → Says (λ w qs. Now v (then w qs)) (acquires site c m)
@@ -98,7 +98,7 @@ module _ (s : LockState) (i : Inv s) (c : ClientId) (cl : c .0 < 16) (id : statu
       go : (y : Bool) (h : Agent) → agentOn s (machineOf c) ≡ record { present = y; agent = h } → Says (λ w qs. Now v (then w qs)) (asks site c m y h)
       go false h e = sent-now v
       go true h e =
-          bool-cases (mayJoin h m) (λ q. rw q (joined-now v h e)) (λ q. bool-cases (noRoom h c) (λ z. rw (q, z) tt) (λ z. rw (q, z) (queued-now v h e)))
+          bool-cases (mayJoin site m) (λ q. rw q (joined-now v h e)) (λ q. bool-cases (noRoom h c) (λ z. rw (q, z) tt) (λ z. rw (q, z) (queued-now v h e)))
 
   pub acquired-now : (v : View) → Now v (acquireStep s c m .state)
   unfolding acquireStep
@@ -114,11 +114,11 @@ unfolding releases staysIf
 release-idle v c =
     bool-cases (lists (v .slot) c) (λ q. rw q (bool-cases (anyHolder (without (v .slot .agent) c)) (λ z. rw z refl) (λ z. rw z refl))) (λ q. rw q refl)
 
-pub released-now : (s : LockState) (i : Inv s) (c : ClientId) (cl : c .0 < 16) (m : Mode) → statusOf s c ≡ Holding m → statusOf (releaseStep s c .state) c ≡ Idle
+pub released-now : (s : LockState) (i : Inv s) (c : ClientId) (cl : c .0 < clients) (m : Mode) → statusOf s c ≡ Holding m → statusOf (releaseStep s c .state) c ≡ Idle
 unfolding releaseStep
 released-now s i c cl m ho =
     after-step (machineOf c) c (λ w qs. w .status ≡ Idle) (λ t. statusOf t c ≡ Idle) _ (packets (s .wire)) s (good-releases s i c cl m ho) (release-idle _ c)
-    (λ w qs p. told-self s c (w .status) (i .sixteen) cl ∙ p)
+    (λ w qs p. told-self s c (w .status) (i .all-clients) cl ∙ p)
 
 pub released-other : (s : LockState) (c : ClientId) (d : ClientId) → (d .0 ≡ c .0 → ⊥) → statusOf (releaseStep s c .state) d ≡ statusOf s d
 unfolding releaseStep
@@ -141,24 +141,24 @@ module _ (v : Site) where
   unfolding decides decidesAcquire decidesFree decidesGrant toOwner
   decider-quiet (Acquire c m false) Unowned p = refl
   decider-quiet (Acquire c m true) Unowned p = tt
-  decider-quiet (Acquire c m false) (Owned n k) p = bool-cases (isShared n && isShared m) (λ q. rw q refl) (λ q. rw q refl)
+  decider-quiet (Acquire c m false) (Owned n k) p = says-by Quiet (mayShare v m) _ _ refl refl
   decider-quiet (Acquire c m true) (Owned n k) p = refl
   decider-quiet (Release c) Unowned p = tt
   decider-quiet (Release c) (Owned n k) p = refl
   decider-quiet Free Unowned p = tt
-  decider-quiet Free (Owned n k) p = bool-cases (current (v .decider) p) (λ q. rw q refl) (λ q. rw q refl)
+  decider-quiet Free (Owned n k) p = says-by Quiet (current (v .decider) p) _ _ refl refl
   decider-quiet (Grant c m) o p = go (p .carried .present) o
     where
       go : (x : Bool) (o : Owner) → Says Quiet (decidesGrant x o v p c m)
       go false o = refl
       go true Unowned = tt
-      go true (Owned n k) = bool-cases (current (v .decider) p) (λ q. rw q refl) (λ q. rw q refl)
+      go true (Owned n k) = says-by Quiet (current (v .decider) p) _ _ refl refl
 
   acquired-quiet : (y : Bool) (h : Agent) (p : Packet) (c : ClientId) (m : Mode) (g : Bool) → Says Quiet (acquired y v h p c m g)
   unfolding acquired marked unmarked
   acquired-quiet false h p c m g = refl
-  acquired-quiet true h p c m true = bool-cases (isShared (h .mode)) (λ q. rw q refl) (λ q. rw q tt)
-  acquired-quiet true h p c m false = bool-cases (mayJoin h m) (λ q. rw q refl) (λ q. bool-cases (noRoom h c) (λ z. rw (q, z) tt) (λ z. rw (q, z) refl))
+  acquired-quiet true h p c m true = says-by Quiet (isShared (h .mode)) _ _ refl tt
+  acquired-quiet true h p c m false = says-by Quiet (mayJoin v m) _ _ refl (says-by Quiet (noRoom h c) _ _ tt refl)
 
   released-quiet : (p : Packet) (c : ClientId) → Says Quiet (released v p c)
   unfolding released staysIf
@@ -178,13 +178,13 @@ module _ (v : Site) where
   granted-tells k false true false a c m n = refl
   granted-tells k false true true a c m n = bool-cases (noRoom a c) (λ z. rw z tt) (λ z. rw z refl)
 
-  delivers-tells : (t : Address) (m : Message) (b x : Bool) (a : Agent) → (x ≡ false → b ≡ true → ⊥) → Says (Tells t m b v) (delivers t v (made m t b x a))
+  delivers-tells : (p : Packet) (t : Address) (m : Message) (b x : Bool) → (x ≡ false → b ≡ true → ⊥) → Says (Tells t m b v) (delivers t v (inParts m t b x p))
   unfolding delivers atDecider atMachine arrives
-  delivers-tells ToDecider m b x a n = decider-quiet m (v .decider .owner) _
-  delivers-tells (ToMachine k) (Acquire c m g) b x a n = acquired-quiet (v .slot .present) (v .slot .agent) _ c m g
-  delivers-tells (ToMachine k) (Release c) b x a n = released-quiet _ c
-  delivers-tells (ToMachine k) Free b x a n = returned-quiet (v .slot .present) _
-  delivers-tells (ToMachine k) (Grant c m) b x a n = granted-tells k (v .slot .present) x b a c m n
+  delivers-tells p ToDecider m b x n = decider-quiet m (v .decider .owner) _
+  delivers-tells p (ToMachine k) (Acquire c m g) b x n = acquired-quiet (v .slot .present) (v .slot .agent) _ c m g
+  delivers-tells p (ToMachine k) (Release c) b x n = released-quiet _ c
+  delivers-tells p (ToMachine k) Free b x n = returned-quiet (v .slot .present) _
+  delivers-tells p (ToMachine k) (Grant c m) b x n = granted-tells k (v .slot .present) x b (p .carried .agent) c m n
 
 module _ (s : LockState) (i : Inv s) (rest : List Packet) (c : ClientId) where
   -- the phase by the trace, where the packet that is delivered has these parts
@@ -194,22 +194,22 @@ module _ (s : LockState) (i : Inv s) (rest : List Packet) (c : ClientId) where
   quiet-seen : (v : View) → v .phase ≡ statusOf s c → (d : ClientId) (st : Status) → st ≡ statusOf s d → v .phase ≡ told s d st (c .0)
   quiet-seen v e d st q = e ∙ sym (rw q (untold s d (c .0)))
 
-  tells-seen : (t : Address) (m : Message) (b x : Bool) (a : Agent) (v : View) → v .phase ≡ statusOf s c → Split s (made m t b x a ∷ []) rest
+  tells-seen : (p : Packet) (t : Address) (m : Message) (b : Bool) (v : View) → v .phase ≡ statusOf s c → Split s (inParts m t b (p .carried .present) p ∷ []) rest
       → (k : MachineId) (w : Site) (qs : List Packet) → Tells t m b (siteOf s k (clientNamed m)) w qs → Seen t m b v (told s (clientNamed m) (w .status) (c .0))
-  tells-seen ToDecider m b x a v e sp k w qs p = quiet-seen v e (clientNamed m) (w .status) p
-  tells-seen (ToMachine j) (Acquire d n g) b x a v e sp k w qs p = quiet-seen v e d (w .status) p
-  tells-seen (ToMachine j) (Release d) b x a v e sp k w qs p = quiet-seen v e d (w .status) p
-  tells-seen (ToMachine j) Free b x a v e sp k w qs p = quiet-seen v e _ (w .status) p
-  tells-seen (ToMachine j) (Grant d n) true x a v e sp k w qs p = rw (and-false) (quiet-seen v e d (w .status) p)
-  tells-seen (ToMachine j) (Grant d n) false x a v e sp k w qs p = go (ℕ-discrete (c .0) (d .0))
+  tells-seen p ToDecider m b v e sp k w qs z = quiet-seen v e (clientNamed m) (w .status) z
+  tells-seen p (ToMachine j) (Acquire d n g) b v e sp k w qs z = quiet-seen v e d (w .status) z
+  tells-seen p (ToMachine j) (Release d) b v e sp k w qs z = quiet-seen v e d (w .status) z
+  tells-seen p (ToMachine j) Free b v e sp k w qs z = quiet-seen v e _ (w .status) z
+  tells-seen p (ToMachine j) (Grant d n) true v e sp k w qs z = rw (and-false) (quiet-seen v e d (w .status) z)
+  tells-seen p (ToMachine j) (Grant d n) false v e sp k w qs z = go (ℕ-discrete (c .0) (d .0))
     where
-      db : d .0 < 16
+      db : d .0 < clients
       db = waiter-below s (d .0) n i (unfold weight tally askM in omega (arith, sp .parts (waitingP (d .0) n), hit-self d n))
 
       go : Dec (c .0 ≡ d .0) → Seen (ToMachine j) (Grant d n) false v (told s d (w .status) (c .0))
       go (yes q) =
-          let z : v .phase ≡ Waiting n = e ∙ ap (λ (z : ℕ). statusAt s z) q ∙ grant-waits i sp in
-          rw (eq-eqb (c .0) (d .0) q, z) (sym (ap (λ (n : ℕ). told s d (w .status) n) q ∙ told-self s d (w .status) (i .sixteen) db ∙ p))
+          let y : v .phase ≡ Waiting n = e ∙ ap (λ (z : ℕ). statusAt s z) q ∙ grant-waits _ i refl sp in
+          rw (eq-eqb (c .0) (d .0) q, y) (sym (ap (λ (n : ℕ). told s d (w .status) n) q ∙ told-self s d (w .status) (i .all-clients) db ∙ z))
       go (no q) = rw (ne-eqb (c .0) (d .0) q) (e ∙ sym (told-other s d (w .status) c q))
 
 pub delivered-now : (s : LockState) (i : Inv s) (j : ℕ) → j < length (packets (s .wire)) → (c : ClientId) (v : View) → v .phase ≡ statusOf s c
@@ -220,8 +220,8 @@ delivered-now s i j h c v e =
     let rest : List Packet = removed (packets (s .wire)) j in
     let sp : Split s (p ∷ []) rest = split-at s j p h refl in
     after-step _ _ (Tells (p .to) (p .message) (p .rejected) (siteOf s (machineAt (p .to)) (clientNamed (p .message)))) (λ u. Seen s i rest c (p .to) (p .message) (p .rejected) v (statusOf u c)) (verdict s p) rest s (good-deliver s i j h)
-    (delivers-tells _ (p .to) (p .message) (p .rejected) (p .carried .present) (p .carried .agent) (rejected-carries-one s i rest p sp))
-    (tells-seen s i rest c (p .to) (p .message) (p .rejected) (p .carried .present) (p .carried .agent) v e sp (machineAt (p .to)))
+    (delivers-tells _ p (p .to) (p .message) (p .rejected) (p .carried .present) (rejected-carries-one s i rest p sp))
+    (tells-seen s i rest c p (p .to) (p .message) (p .rejected) v e sp (machineAt (p .to)))
 
 -- ---- one call, on its own lock
 abbrev client-of : ℕ → ClientId
@@ -232,7 +232,7 @@ own : (a : Call) (s : LockState) (x y : Cluster) (c : ClientId) (v : View) → A
 unfolding sees
 own _ s x y c v (may-acquire {l = l} {k = k} {t = t} {m = m} kb tb n id un) i ex ey e = go (ℕ-discrete (c .0) (clientOf k t .0))
   where
-    cl : clientOf k t .0 < 16
+    cl : clientOf k t .0 < clients
     cl = omega arith
 
     mine : sees l (clientOf k t) (AcquireCall l k t m) x y v .phase ≡ statusOf (lockIn y l) (clientOf k t)
@@ -246,7 +246,7 @@ own _ s x y c v (may-acquire {l = l} {k = k} {t = t} {m = m} kb tb n id un) i ex
     go (no q) = rw (eq-eqb (l .0) (l .0) refl, ne-eqb (c .0) (clientOf k t .0) q, ey) (e ∙ sym (acquired-other s (clientOf k t) (modeOf m) c q))
 own _ s x y c v (may-release {l = l} {k = k} {t = t} kb tb n ho) i ex ey e = go (ℕ-discrete (c .0) (clientOf k t .0))
   where
-    cl : clientOf k t .0 < 16
+    cl : clientOf k t .0 < clients
     cl = omega arith
 
     go : Dec (c .0 ≡ clientOf k t .0) → sees l c (ReleaseCall l k t) x y v .phase ≡ statusOf (lockIn y l) c

@@ -1,45 +1,41 @@
 -- The waiters that leave a queue and those that stay, holders that join, and room in a queue.
-use Rattle.theorems.specs.Names.{ClientId, Mode, Exclusive, Shared, Owner, Waiter, ToDecider, Grant, Packet, Idle, LockState, _≡_, refl, sym, _∙_, Bool, true, false, _||_, not, and-true, false≢true, List, [], _∷_, map, ℕ, _+_, _≤_, _<_, arith, ℕ-discrete, length, getD, set, length-set, getD-set-same, getD-set-other, eqb, leb, ltb, eq-eqb, ne-eqb, ltb-true, le-leb, lt-leb, any, isShared, packet, noAgent, isClient, grantOf, ofMode, admitted, staying, joined, bool-cases}
+use Rattle.theorems.specs.Names.{ClientId, Mode, Exclusive, Shared, Owner, Waiter, ToDecider, Grant, Packet, Idle, LockState, _≡_, refl, sym, _∙_, Bool, true, false, _||_, not, and-true, false≢true, List, [], _∷_, map, ℕ, _+_, _≤_, _<_, arith, ℕ-discrete, length, getD, set, length-set, getD-set-same, getD-set-other, eqb, leb, ltb, eq-eqb, ne-eqb, ltb-true, le-leb, lt-leb, any, isShared, plain, noAgent, isClient, grantOf, admitted, staying, joined, bool-cases, clients, queueCapacity, Parting, done, first-leaves, first-stays, parting, none-leaves}
 use Rattle.theorems.specs.Tally.{flag, tally, tally-set, tally-le, tally-ext, tally-add, tally-zero, tally-length, tally-map, sumTo, sum-swap, sum-le, sum-add, sum-one}
 use Rattle.theorems.specs.Weights.{statusAt, one, hit, oneW, hitW, waitF, ownedMode, few, fits, misfitP}
 use Rattle.theorems.specs.Invariant.{Inv}
 use Rattle.theorems.specs.Facts.{far-idle, one-le, farW, far-none, shared-owner, hits, statuses, one-self}
 
--- ---- who leaves the queue and who stays are the queue
-parted-modes : (f : Waiter → ℕ) (ws : List Waiter) → tally f ws ≡ tally f (ofMode false ws) + tally f (ofMode true ws)
-unfolding tally ofMode
-parted-modes f [] = refl
-parted-modes f (w ∷ ws) = bool-cases (isShared (w .mode)) (λ q. rw q (omega (arith, parted-modes f ws))) (λ q. rw q (omega (arith, parted-modes f ws)))
+-- ---- who leaves the queue and who stays are the queue, and those who leave are shared
+parted-by : {out stay ws : List Waiter} → Parting out stay ws → (f : Waiter → ℕ) → tally f ws ≡ tally f stay + tally f out
+unfolding tally
+parted-by done f = refl
+parted-by (first-leaves e p) f = omega (arith, parted-by p f)
+parted-by (first-stays p) f = omega (arith, parted-by p f)
 
 pub parted : (n : Mode) (f : Waiter → ℕ) (ws : List Waiter) → tally f ws ≡ tally f (staying n ws) + tally f (admitted n ws)
-unfolding tally admitted staying
-parted Exclusive f ws = omega arith
-parted Shared f ws = parted-modes f ws
+parted n f ws = parted-by (parting n ws) f
 
 -- two counts that agree on shared waiters agree on those who leave
-of-shared : (f g : Waiter → ℕ) → ((c : ClientId) → f (record { client = c; mode = Shared }) ≡ g (record { client = c; mode = Shared })) → (c : ClientId) (m : Mode) → isShared m ≡ true
-    → f (record { client = c; mode = m }) ≡ g (record { client = c; mode = m })
-of-shared f g h c Exclusive e = absurd (false≢true e)
-of-shared f g h c Shared e = h c
+module _ (f g : Waiter → ℕ) (h : (c : ClientId) → f (record { client = c; mode = Shared }) ≡ g (record { client = c; mode = Shared })) where
+  of-shared : (c : ClientId) (m : Mode) → isShared m ≡ true → f (record { client = c; mode = m }) ≡ g (record { client = c; mode = m })
+  of-shared c Exclusive e = absurd (false≢true e)
+  of-shared c Shared e = h c
 
-ofMode-ext : (f g : Waiter → ℕ) → ((c : ClientId) → f (record { client = c; mode = Shared }) ≡ g (record { client = c; mode = Shared })) → (ws : List Waiter)
-    → tally f (ofMode true ws) ≡ tally g (ofMode true ws)
-unfolding tally ofMode
-ofMode-ext f g h [] = refl
-ofMode-ext f g h (w ∷ ws) =
-    bool-cases (isShared (w .mode)) (λ q. rw q (omega (arith, ofMode-ext f g h ws, of-shared f g h (w .client) (w .mode) q))) (λ q. rw q (ofMode-ext f g h ws))
+  leavers-ext : {out stay ws : List Waiter} → Parting out stay ws → tally f out ≡ tally g out
+  unfolding tally
+  leavers-ext done = refl
+  leavers-ext (first-leaves {w} e p) = omega (arith, leavers-ext p, of-shared (w .client) (w .mode) e)
+  leavers-ext (first-stays p) = leavers-ext p
 
 pub admitted-ext : (n : Mode) (f g : Waiter → ℕ) → ((c : ClientId) → f (record { client = c; mode = Shared }) ≡ g (record { client = c; mode = Shared })) → (ws : List Waiter)
     → tally f (admitted n ws) ≡ tally g (admitted n ws)
-unfolding admitted tally
-admitted-ext Exclusive f g h ws = refl
-admitted-ext Shared f g h ws = ofMode-ext f g h ws
+admitted-ext n f g h ws = leavers-ext f g h (parting n ws)
 
-pub grants-count : (n : Mode) (f : Packet → ℕ) (g : Waiter → ℕ) → ((c : ClientId) → f (packet (Grant c Shared) ToDecider) ≡ g (record { client = c; mode = Shared })) → (ws : List Waiter)
+pub grants-count : (n : Mode) (f : Packet → ℕ) (g : Waiter → ℕ) → ((c : ClientId) → f (plain (Grant c Shared) ToDecider) ≡ g (record { client = c; mode = Shared })) → (ws : List Waiter)
     → tally f (map grantOf (admitted n ws)) ≡ tally g (admitted n ws)
 grants-count n f g h ws = tally-map f grantOf (admitted n ws) ∙ admitted-ext n (λ w. f (grantOf w)) g h ws
 
-pub grants-none : (n : Mode) (f : Packet → ℕ) → ((c : ClientId) → f (packet (Grant c Shared) ToDecider) ≡ 0) → (ws : List Waiter) → tally f (map grantOf (admitted n ws)) ≡ 0
+pub grants-none : (n : Mode) (f : Packet → ℕ) → ((c : ClientId) → f (plain (Grant c Shared) ToDecider) ≡ 0) → (ws : List Waiter) → tally f (map grantOf (admitted n ws)) ≡ 0
 grants-none n f h ws = grants-count n f (λ w. 0) h ws ∙ tally-zero (admitted n ws)
 
 -- ---- holders that join
@@ -52,11 +48,6 @@ list-on-at hs c d h u = go (ℕ-discrete d c)
         let g : flag (getD (set hs c true) d false) ≡ 1 = rw (← q, getD-set-same hs d true false h) in
         omega arith
     go (no n) = rw (getD-set-other hs c d true false n, ne-eqb c d (λ q. n (sym q))) (omega arith)
-
-pub length-joined : (hs : List Bool) (ws : List Waiter) → length (joined hs ws) ≡ length hs
-unfolding joined
-length-joined hs [] = refl
-length-joined hs (w ∷ ws) = length-joined (set hs (w .client .0) true) ws ∙ length-set hs (w .client .0) true
 
 pub join-count : (hs : List Bool) (ws : List Waiter) (d : ℕ) → d < length hs → flag (getD hs d false) + tally (oneW d) ws ≤ 1
     → flag (getD (joined hs ws) d false) ≡ flag (getD hs d false) + tally (oneW d) ws
@@ -73,29 +64,29 @@ admitted-below d n ws = omega (arith, admitted-ext n (oneW d) (hitW d Shared) (�
 
 pub single-of : (d : ℕ) (c : ClientId) (n : Mode) (ws : List Waiter) → hit d Shared c n + tally (hitW d Shared) ws ≤ 1 → one d c + tally (oneW d) (admitted n ws) ≤ 1
 unfolding hit one
-single-of d c Exclusive ws h = unfold admitted tally in omega (arith, one-le d c)
+single-of d c Exclusive ws h = rw (none-leaves ws .0) (unfold tally in omega (arith, one-le d c))
 single-of d c Shared ws h = omega (arith, admitted-below d Shared ws)
 
 pub grants-fit : (o : Owner) (n : Mode) → ownedMode o n ≡ true → (ws : List Waiter) → tally farW ws ≡ 0 → tally (misfitP o) (map grantOf (admitted n ws)) ≡ 0
-grants-fit o Exclusive e ws h = unfold admitted tally in refl
+grants-fit o Exclusive e ws h = rw (none-leaves ws .0) (unfold tally in refl)
 grants-fit o Shared e ws h =
-    let p : (c : ClientId) → misfitP o (packet (Grant c Shared) ToDecider) ≡ flag (not (ltb (c .0) 16)) = λ c. unfold misfitP fits noAgent in rw (shared-owner o e, and-true) in
+    let p : (c : ClientId) → misfitP o (plain (Grant c Shared) ToDecider) ≡ flag (not (ltb (c .0) clients)) = λ c. unfold misfitP fits noAgent in rw (shared-owner o e, and-true) in
     omega (arith, grants-count Shared (misfitP o) farW p ws, parted Shared farW ws)
 
 pub few-joined : (n : Mode) (hs : List Bool) (c : ℕ) (ws : List Waiter) → c < length hs → tally flag hs ≡ 0 → few n (tally flag (joined (set hs c true) (admitted n ws))) ≡ true
-few-joined Exclusive hs c ws h z = unfold admitted joined in le-leb (tally flag (set hs c true)) 1 (omega (arith, tally-set flag false hs c true h))
+few-joined Exclusive hs c ws h z = rw (none-leaves ws .0) (unfold joined in le-leb (tally flag (set hs c true)) 1 (omega (arith, tally-set flag false hs c true h)))
 few-joined Shared hs c ws h z = refl
 
--- ---- room in a queue: each of sixteen clients stands in it at most once, and the client that comes not at all
+-- ---- room in a queue: each of all-clients clients stands in it at most once, and the client that comes not at all
 any-none : (c : ClientId) (ws : List Waiter) → tally (oneW (c .0)) ws ≡ 0 → any (isClient c) ws ≡ false
 unfolding tally one
 any-none c [] e = refl
 any-none c (w ∷ ws) e = bool-cases (eqb (w .client .0) (c .0)) (λ q. absurd (omega (arith, rw q at e))) (λ q. rw q (any-none c ws (omega (arith, rw q at e))))
 
--- a waiter is far, or is one of sixteen clients
-waiter-one : (w : Waiter) → 1 ≤ farW w + sumTo 16 (λ d. oneW d w)
+-- a waiter is far, or is one of all-clients clients
+waiter-one : (w : Waiter) → 1 ≤ farW w + sumTo clients (λ d. oneW d w)
 unfolding one
-waiter-one w = bool-cases (ltb (w .client .0) 16) (λ q. omega (arith, sum-one 16 (w .client .0) (ltb-true (w .client .0) 16 q))) (λ q. rw q (omega arith))
+waiter-one w = bool-cases (ltb (w .client .0) clients) (λ q. omega (arith, sum-one clients (w .client .0) (ltb-true (w .client .0) clients q))) (λ q. rw q (omega arith))
 
 -- the list is counted by `waits`
 module _ (r : LockState) (i : Inv r) (line : List Waiter) (counted : (d : ℕ) (m : Mode) → tally (hitW d m) line ≤ waitF m (statusAt r d)) where
@@ -107,30 +98,30 @@ module _ (r : LockState) (i : Inv r) (line : List Waiter) (counted : (d : ℕ) (
   line-once d =
       omega (arith, tally-add (hitW d Exclusive) (hitW d Shared) line, tally-ext (oneW d) (λ w. hitW d Exclusive w + hitW d Shared w) (λ w. sym (hits d (w .client) (w .mode))) line)
 
-  pub room : (c : ClientId) → c .0 < 16 → ((d : ℕ) → tally (oneW d) line + one d c ≤ 1) → (any (isClient c) line || leb 16 (length line)) ≡ false
+  pub room : (c : ClientId) → c .0 < clients → ((d : ℕ) → tally (oneW d) line + one d c ≤ 1) → (any (isClient c) line || leb queueCapacity (length line)) ≡ false
   unfolding one
   room c cl once =
-      let few : length line < 16 =
+      let few : length line < clients =
       omega (
         arith,
         tally-length line,
-        tally-le (λ w. 1) (λ w. farW w + sumTo 16 (λ d. oneW d w)) waiter-one line,
-        tally-add farW (λ w. sumTo 16 (λ d. oneW d w)) line,
+        tally-le (λ w. 1) (λ w. farW w + sumTo clients (λ d. oneW d w)) waiter-one line,
+        tally-add farW (λ w. sumTo clients (λ d. oneW d w)) line,
         none-far,
-        sum-swap 16 oneW line,
-        sum-le 16 1 (λ d. tally (oneW d) line + flag (eqb (c .0) d)) once,
-        sum-add 16 (λ d. tally (oneW d) line) (λ d. flag (eqb (c .0) d)),
-        sum-one 16 (c .0) cl,
+        sum-swap clients oneW line,
+        sum-le clients 1 (λ d. tally (oneW d) line + flag (eqb (c .0) d)) once,
+        sum-add clients (λ d. tally (oneW d) line) (λ d. flag (eqb (c .0) d)),
+        sum-one clients (c .0) cl,
       ) in
-      rw (any-none c line (omega (arith, once (c .0), one-self c)), lt-leb 16 (length line) few)
+      rw (any-none c line (omega (arith, once (c .0), one-self c)), lt-leb queueCapacity (length line) few)
 
   -- the client that comes waits, and its packet is counted too
-  pub room-waiting : (c : ClientId) (n : Mode) → c .0 < 16 → ((d : ℕ) (m : Mode) → hit d m c n + tally (hitW d m) line ≤ waitF m (statusAt r d))
-      → (any (isClient c) line || leb 16 (length line)) ≡ false
+  pub room-waiting : (c : ClientId) (n : Mode) → c .0 < clients → ((d : ℕ) (m : Mode) → hit d m c n + tally (hitW d m) line ≤ waitF m (statusAt r d))
+      → (any (isClient c) line || leb queueCapacity (length line)) ≡ false
   room-waiting c n cl h = room c cl (λ d. omega (arith, h d Exclusive, h d Shared, hits d c n, statuses (statusAt r d), line-once d))
 
   -- the client that comes is idle
-  pub room-idle : (c : ClientId) → c .0 < 16 → statusAt r (c .0) ≡ Idle → (any (isClient c) line || leb 16 (length line)) ≡ false
+  pub room-idle : (c : ClientId) → c .0 < clients → statusAt r (c .0) ≡ Idle → (any (isClient c) line || leb queueCapacity (length line)) ≡ false
   unfolding one waitF
   room-idle c cl id = room c cl once
     where

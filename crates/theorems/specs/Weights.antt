@@ -1,7 +1,7 @@
 -- Weights: what a packet, an agent's slot or a status counts for. A count over a lock's state is a weight summed over the packets
--- on the wire plus one summed over the four machines, so there is no agent to search for. Clients and machines are numbers here.
+-- on the wire plus one summed over the all-machines machines, so there is no agent to search for. Clients and machines are numbers here.
 -- Suffixes: M of a message, P of a packet, S of a slot, W of a waiter, F of a status or an owner.
-use Rattle.theorems.specs.Names.{Bool, true, false, _&&_, not, ℕ, _+_, _*_, _/_, length, getD, eqb, leb, ltb, MachineId, ClientId, Mode, Exclusive, Shared, Owner, Unowned, Owned, Waiter, Agent, AgentSlot, Address, ToDecider, ToMachine, Message, Acquire, Grant, Release, Free, Packet, Status, Idle, Waiting, Holding, LockState, waiters, noAgent, idle, packets}
+use Rattle.theorems.specs.Names.{Bool, true, false, _&&_, not, ℕ, _+_, _*_, length, getD, eqb, leb, ltb, MachineId, ClientId, Mode, Exclusive, Shared, Owner, Unowned, Owned, Waiter, Agent, AgentSlot, Address, ToDecider, ToMachine, Message, Acquire, Grant, Release, Free, Packet, Status, Idle, Waiting, Holding, LockState, waiters, noAgent, idle, packets, machines, clients, machineOf, ownedShared}
 use Rattle.theorems.specs.Tally.{flag, gate, tally}
 
 abbrev pub statusAt : LockState → ℕ → Status
@@ -142,9 +142,9 @@ clash o (Waiting n) = 0
 clash Unowned (Holding n) = 1
 clash (Owned m k) (Holding n) = flag (not (sameMode n m))
 
--- ---- machines' numbers are below 4
+-- ---- machines' numbers are in range
 unfoldable pub farM : MachineId → ℕ
-farM k = flag (not (ltb (k .0) 4))
+farM k = flag (not (ltb (k .0) machines))
 
 abbrev pub farA : Address → ℕ
 farA ToDecider = 0
@@ -158,11 +158,6 @@ farF Unowned = 0
 farF (Owned m k) = farM k
 
 -- ---- what an agent and a packet must be, beside the lock's owner
-abbrev pub ownedShared : Owner → Bool
-ownedShared Unowned = false
-ownedShared (Owned Exclusive k) = false
-ownedShared (Owned Shared k) = true
-
 abbrev pub ownedMode : Owner → Mode → Bool
 ownedMode Unowned n = false
 ownedMode (Owned m k) n = sameMode n m
@@ -178,14 +173,14 @@ few Shared n = true
 
 -- an agent on a machine: the owner's machine, the lock's mode
 unfoldable pub fitsHome : Owner → ℕ → Agent → Bool
-fitsHome o k a = ownedAt o k && (ownedMode o (a .mode) && (eqb (length (a .holders)) 16 && (few (a .mode) (heads a) && ltb (a .incarnation) 256)))
+fitsHome o k a = ownedAt o k && (ownedMode o (a .mode) && (eqb (length (a .holders)) clients && (few (a .mode) (heads a) && ltb (a .incarnation) 256)))
 
 unfoldable pub misfitS : Owner → ℕ → AgentSlot → ℕ
 misfitS o k x = gate (x .present) (flag (not (fitsHome o k (x .agent))))
 
 -- an agent that travels lists nobody
 unfoldable pub fitsAway : Agent → Bool
-fitsAway a = eqb (length (a .holders)) 16 && (eqb (heads a) 0 && ltb (a .incarnation) 256)
+fitsAway a = eqb (length (a .holders)) clients && (eqb (heads a) 0 && ltb (a .incarnation) 256)
 
 -- in a FREE its queue is empty
 unfoldable pub fitsFree : Agent → Bool
@@ -200,7 +195,7 @@ fitsCarried o ToDecider b a Free = not b && (ownedMode o (a .mode) && fitsFree a
 fitsCarried o (ToMachine k) b a Free = b && (ownedAt o (k .0) && (ownedMode o (a .mode) && fitsFree a))
 fitsCarried o ToDecider b a (Grant c n) = not b && (ownedMode o (a .mode) && fitsAway a)
 fitsCarried o (ToMachine k) true a (Grant c n) = ownedAt o (k .0) && (ownedMode o (a .mode) && fitsAway a)
-fitsCarried o (ToMachine k) false a (Grant c n) = ownedAt o (k .0) && (eqb (c .0 / 4) (k .0) && (ownedMode o n && fitsAway a))
+fitsCarried o (ToMachine k) false a (Grant c n) = ownedAt o (k .0) && (eqb (machineOf c .0) (k .0) && (ownedMode o n && fitsAway a))
 
 -- a packet without: marks and GRANTs only beside a shared lock, no RELEASE at a free one
 abbrev pub fitsPlain : Owner → Message → Bool
@@ -212,9 +207,9 @@ fitsPlain (Owned m k) (Release c) = true
 fitsPlain o Free = false
 
 abbrev pub inRange : Message → Bool
-inRange (Acquire c n g) = ltb (c .0) 16
-inRange (Grant c n) = ltb (c .0) 16
-inRange (Release c) = ltb (c .0) 16
+inRange (Acquire c n g) = ltb (c .0) clients
+inRange (Grant c n) = ltb (c .0) clients
+inRange (Release c) = ltb (c .0) clients
 inRange Free = true
 
 -- the Bools: an agent is carried; rejected
@@ -222,5 +217,8 @@ unfoldable pub fits : Owner → Bool → Address → Bool → Agent → Message 
 fits o true t b a m = inRange m && fitsCarried o t b a m
 fits o false t b a m = inRange m && (not b && fitsPlain o m)
 
+abbrev pub fitsP : Owner → Packet → Bool
+fitsP o p = fits o (p .carried .present) (p .to) (p .rejected) (p .carried .agent) (p .message)
+
 unfoldable pub misfitP : Owner → Packet → ℕ
-misfitP o p = flag (not (fits o (p .carried .present) (p .to) (p .rejected) (p .carried .agent) (p .message)))
+misfitP o p = flag (not (fitsP o p))

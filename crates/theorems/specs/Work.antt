@@ -1,7 +1,7 @@
--- The work that is left on a lock: what each packet, agent and client counts for, how a step changes it, and that it is at most 114.
-use Rattle.theorems.specs.Names.{MachineId, ClientId, Mode, Exclusive, Shared, Owner, Waiter, Agent, AgentSlot, Address, ToDecider, ToMachine, Message, Free, Acquire, Grant, Release, Packet, ClientState, LockState, _≡_, refl, _∙_, Bool, true, false, and-false, false≢true, List, [], _∷_, ℕ, zero, suc, _+_, _*_, _≤_, arith, length, getD, set, ltb, ltb-true, idle, waiters, noAgent, packets, Site, apply, bool-cases}
+-- The work that is left on a lock: what each packet, agent and client counts for, how a step changes it, and its bound.
+use Rattle.theorems.specs.Names.{MachineId, ClientId, Mode, Exclusive, Shared, Owner, Waiter, Agent, AgentSlot, Address, ToDecider, ToMachine, Message, Free, Acquire, Grant, Release, Packet, ClientState, LockState, _≡_, refl, _∙_, Bool, true, false, and-false, false≢true, List, [], _∷_, ℕ, zero, suc, _+_, _*_, _≤_, arith, length, getD, set, ltb, ltb-true, idle, waiters, noAgent, packets, Site, apply, bool-cases, clients}
 use Rattle.theorems.specs.Tally.{flag, gate, tally, tally-at, tally-le, tally-le-at, tally-add, tally-zero, tally-length, sumTo, sum-swap, sum-le, sum-ext, sum-add, sum-one}
-use Rattle.theorems.specs.Weights.{statusAt, slotAt, weight, one, hit, hitW, askM, queuedS, waitingP, markM, listedS, listedP, owedM, owedP, releaseM, releaseP, agentS, agentP, heads, waitF, holdF, misfitS, fits, misfitP}
+use Rattle.theorems.specs.Weights.{statusAt, slotAt, weight, one, hit, hitW, askM, queuedS, waitingP, markM, listedS, listedP, owedM, owedP, releaseM, releaseP, agentS, agentP, heads, waitF, holdF, misfitS, fits, fitsP, misfitP}
 use Rattle.theorems.specs.Invariant.{Inv}
 use Rattle.theorems.specs.Keep.{packets-after, Split}
 use Rattle.theorems.specs.Facts.{fit, named-of, away-of, home-of, far-idle, farW, far-none, hits, statuses, owned-one}
@@ -32,6 +32,10 @@ workC c = 2 * holdF (c .status)
 
 unfoldable pub work : LockState → ℕ
 work s = weight workP workS s + tally workC (s .clients)
+
+-- it is at most this: 7 for each client, 2 for the agent
+abbrev pub workBound : ℕ
+workBound = 7 * clients + 2
 
 -- ---- how a step changes it
 pub tally-set-le : {A : Type 0} (f : A → ℕ) (d : A) → f d ≡ 0 → (xs : List A) (i : ℕ) (y : A) → tally f (set xs i y) + f (getD xs i d) ≤ tally f xs + f y
@@ -90,24 +94,24 @@ queueD d x = queuedS d Exclusive x + queuedS d Shared x
 
 -- the asks of all clients in a message
 askSum : Message → ℕ
-askSum m = sumTo 16 (λ d. askM d Exclusive m + askM d Shared m)
+askSum m = sumTo clients (λ d. askM d Exclusive m + askM d Shared m)
 
-one-each : (c : ClientId) → ltb (c .0) 16 ≡ true → sumTo 16 (λ d. one d c) ≡ 1
+one-each : (c : ClientId) → ltb (c .0) clients ≡ true → sumTo clients (λ d. one d c) ≡ 1
 unfolding one
-one-each c e = sum-one 16 (c .0) (ltb-true (c .0) 16 e)
+one-each c e = sum-one clients (c .0) (ltb-true (c .0) clients e)
 
-asks-each : (c : ClientId) (n : Mode) → ltb (c .0) 16 ≡ true → sumTo 16 (λ d. hit d Exclusive c n + hit d Shared c n) ≡ 1
-asks-each c n e = sum-ext 16 (λ d. hit d Exclusive c n + hit d Shared c n) (λ d. one d c) (λ d. hits d c n) ∙ one-each c e
+asks-each : (c : ClientId) (n : Mode) → ltb (c .0) clients ≡ true → sumTo clients (λ d. hit d Exclusive c n + hit d Shared c n) ≡ 1
+asks-each c n e = sum-ext clients (λ d. hit d Exclusive c n + hit d Shared c n) (λ d. one d c) (λ d. hits d c n) ∙ one-each c e
 
 trip-two : (t : Address) → tripA t ≤ 2
 trip-two ToDecider = omega arith
 trip-two (ToMachine k) = omega arith
 
-none-each : (f : ℕ → ℕ) → ((d : ℕ) → f d ≡ 0) → sumTo 16 f ≡ 0
-none-each f h = omega (arith, sum-le 16 0 f (λ d. omega (arith, h d)))
+none-each : (f : ℕ → ℕ) → ((d : ℕ) → f d ≡ 0) → sumTo clients f ≡ 0
+none-each f h = omega (arith, sum-le clients 0 f (λ d. omega (arith, h d)))
 
 message-work : (o : Owner) (x : Bool) (t : Address) (b : Bool) (a : Agent) (m : Message) → fits o x t b a m ≡ true
-    → workM x t m + 4 * sumTo 16 (λ d. owedM d x m) ≤ 2 * flag x + 7 * askSum m + 3 * sumTo 16 (λ d. markM d m) + 5 * sumTo 16 (λ d. releaseM d m)
+    → workM x t m + 4 * sumTo clients (λ d. owedM d x m) ≤ 2 * flag x + 7 * askSum m + 3 * sumTo clients (λ d. markM d m) + 5 * sumTo clients (λ d. releaseM d m)
 unfolding workM owedM askM markM releaseM askSum fits
 message-work o x t b a (Acquire c n false) e = let q = named-of o x t b a (Acquire c n false) e in omega (arith, asks-each c n q, none-each (λ d. 0) (λ d. refl))
 message-work o x t b a (Acquire c n true) e = let q = named-of o x t b a (Acquire c n true) e in omega (arith, one-each c q, none-each (λ d. 0) (λ d. refl))
@@ -121,22 +125,22 @@ message-work o false t b a Free e = absurd (false≢true (rw and-false at e))
 unfoldable farS : AgentSlot → ℕ
 farS x = gate (x .present) (tally farW (waiters (x .agent .queue)))
 
-queue-work : (ws : List Waiter) → tally farW ws ≡ 0 → length ws ≤ sumTo 16 (λ d. tally (hitW d Exclusive) ws + tally (hitW d Shared) ws)
+queue-work : (ws : List Waiter) → tally farW ws ≡ 0 → length ws ≤ sumTo clients (λ d. tally (hitW d Exclusive) ws + tally (hitW d Shared) ws)
 queue-work ws z =
     omega (
       arith,
       tally-length ws,
-      tally-le (λ w. 1) (λ w. farW w + sumTo 16 (λ d. hitW d Exclusive w + hitW d Shared w)) each ws,
-      tally-add farW (λ w. sumTo 16 (λ d. hitW d Exclusive w + hitW d Shared w)) ws,
-      sum-swap 16 (λ d w. hitW d Exclusive w + hitW d Shared w) ws,
-      sum-ext 16 (λ d. tally (λ w. hitW d Exclusive w + hitW d Shared w) ws) (λ d. tally (hitW d Exclusive) ws + tally (hitW d Shared) ws) (λ d. tally-add (hitW d Exclusive) (hitW d Shared) ws),
+      tally-le (λ w. 1) (λ w. farW w + sumTo clients (λ d. hitW d Exclusive w + hitW d Shared w)) each ws,
+      tally-add farW (λ w. sumTo clients (λ d. hitW d Exclusive w + hitW d Shared w)) ws,
+      sum-swap clients (λ d w. hitW d Exclusive w + hitW d Shared w) ws,
+      sum-ext clients (λ d. tally (λ w. hitW d Exclusive w + hitW d Shared w) ws) (λ d. tally (hitW d Exclusive) ws + tally (hitW d Shared) ws) (λ d. tally-add (hitW d Exclusive) (hitW d Shared) ws),
     )
   where
-    each : (w : Waiter) → 1 ≤ farW w + sumTo 16 (λ d. hitW d Exclusive w + hitW d Shared w)
-    each w = bool-cases (ltb (w .client .0) 16) (λ q. omega (arith, asks-each (w .client) (w .mode) q)) (λ q. rw q (omega arith))
+    each : (w : Waiter) → 1 ≤ farW w + sumTo clients (λ d. hitW d Exclusive w + hitW d Shared w)
+    each w = bool-cases (ltb (w .client .0) clients) (λ q. omega (arith, asks-each (w .client) (w .mode) q)) (λ q. rw q (omega arith))
 
-slot-work : (x : AgentSlot) → (x .present ≡ true → length (x .agent .holders) ≡ 16) → farS x ≡ 0
-    → workS x ≤ 7 * sumTo 16 (λ d. queueD d x) + 3 * sumTo 16 (λ d. listedS d x)
+slot-work : (x : AgentSlot) → (x .present ≡ true → length (x .agent .holders) ≡ clients) → farS x ≡ 0
+    → workS x ≤ 7 * sumTo clients (λ d. queueD d x) + 3 * sumTo clients (λ d. listedS d x)
 unfolding workS queuedS listedS farS
 slot-work x h z =
     bool-cases (x .present)
@@ -145,26 +149,26 @@ slot-work x h z =
     rw (q, tally-sum flag false (x .agent .holders), h q) (omega (arith, queue-work (waiters (x .agent .queue)) z′)))
     (λ q. rw q (omega arith))
 
-carried-sized : (o : Owner) (x : Bool) (t : Address) (b : Bool) (a : Agent) (m : Message) → fits o x t b a m ≡ true → x ≡ true → length (a .holders) ≡ 16
+carried-sized : (o : Owner) (x : Bool) (t : Address) (b : Bool) (a : Agent) (m : Message) → fits o x t b a m ≡ true → x ≡ true → length (a .holders) ≡ clients
 carried-sized o false t b a m e q = absurd (false≢true q)
 carried-sized o true t b a m e q = away-of a (carried-away o t b a m e) .sized
 
 packet-work : (o : Owner) (p : Packet) → misfitP o p + farS (p .carried) ≡ 0
-    → workP p + 4 * sumTo 16 (λ d. owedP d p) ≤ 2 * agentP p + 7 * sumTo 16 (λ d. waitD d p) + 3 * sumTo 16 (λ d. listedP d p) + 5 * sumTo 16 (λ d. releaseP d p)
+    → workP p + 4 * sumTo clients (λ d. owedP d p) ≤ 2 * agentP p + 7 * sumTo clients (λ d. waitD d p) + 3 * sumTo clients (λ d. listedP d p) + 5 * sumTo clients (λ d. releaseP d p)
 unfolding misfitP agentS askSum
 packet-work o p z =
-    let f : fits o (p .carried .present) (p .to) (p .rejected) (p .carried .agent) (p .message) ≡ true = fit _ (omega arith) in
+    let f : fitsP o p ≡ true = fit _ (omega arith) in
     omega (
       arith,
       message-work o _ _ _ _ (p .message) f,
       slot-work (p .carried) (carried-sized o _ _ _ _ (p .message) f) (omega arith),
-      sum-ext 16 (λ d. waitD d p) (λ d. (askM d Exclusive (p .message) + askM d Shared (p .message)) + queueD d (p .carried)) (λ d. omega arith),
-      sum-add 16 (λ d. askM d Exclusive (p .message) + askM d Shared (p .message)) (λ d. queueD d (p .carried)),
-      sum-add 16 (λ d. markM d (p .message)) (λ d. listedS d (p .carried)),
+      sum-ext clients (λ d. waitD d p) (λ d. (askM d Exclusive (p .message) + askM d Shared (p .message)) + queueD d (p .carried)) (λ d. omega arith),
+      sum-add clients (λ d. askM d Exclusive (p .message) + askM d Shared (p .message)) (λ d. queueD d (p .carried)),
+      sum-add clients (λ d. markM d (p .message)) (λ d. listedS d (p .carried)),
     )
 
 -- no waiter is far, where none is counted
-far-slots : {A : Type 0} (s : A → AgentSlot) (xs : List A) → ((d : ℕ) (m : Mode) → 16 ≤ d → tally (λ x. queuedS d m (s x)) xs ≡ 0) → tally (λ x. farS (s x)) xs ≡ 0
+far-slots : {A : Type 0} (s : A → AgentSlot) (xs : List A) → ((d : ℕ) (m : Mode) → clients ≤ d → tally (λ x. queuedS d m (s x)) xs ≡ 0) → tally (λ x. farS (s x)) xs ≡ 0
 unfolding tally queuedS farS
 far-slots s [] h = refl
 far-slots s (x ∷ xs) h = omega (arith, far-slots s xs (λ d m g. omega (arith, h d m g)), here)
@@ -176,7 +180,7 @@ module _ (r : LockState) (i : Inv r) where
   abbrev ps : List Packet
   ps = packets (r .wire)
 
-  far-queues : (d : ℕ) (m : Mode) → 16 ≤ d → weight (waitingP d m) (queuedS d m) r ≡ 0
+  far-queues : (d : ℕ) (m : Mode) → clients ≤ d → weight (waitingP d m) (queuedS d m) r ≡ 0
   unfolding waitF
   far-queues d m h = i .waits d m ∙ rw (far-idle r d i h)
 
@@ -188,23 +192,23 @@ module _ (r : LockState) (i : Inv r) where
   unfolding weight
   far-seated = far-slots (λ x. x) (r .agents) (λ d m h. omega (arith, far-queues d m h))
 
-  home-sized : (k : ℕ) → slotAt r k .present ≡ true → length (slotAt r k .agent .holders) ≡ 16
+  home-sized : (k : ℕ) → slotAt r k .present ≡ true → length (slotAt r k .agent .holders) ≡ clients
   unfolding misfitS
   home-sized k q = home-of (r .decider .owner) k (slotAt r k .agent) (rw q at (i .homes k)) .sized
 
-  seats-work : tally workS (r .agents) ≤ 7 * tally (λ x. sumTo 16 (λ d. queueD d x)) (r .agents) + 3 * tally (λ x. sumTo 16 (λ d. listedS d x)) (r .agents)
+  seats-work : tally workS (r .agents) ≤ 7 * tally (λ x. sumTo clients (λ d. queueD d x)) (r .agents) + 3 * tally (λ x. sumTo clients (λ d. listedS d x)) (r .agents)
   seats-work =
-      let share : AgentSlot → ℕ = λ x. 7 * sumTo 16 (λ d. queueD d x) + 3 * sumTo 16 (λ d. listedS d x) in
+      let share : AgentSlot → ℕ = λ x. 7 * sumTo clients (λ d. queueD d x) + 3 * sumTo clients (λ d. listedS d x) in
       let z : AgentSlot → ℕ = λ x. 0 in
       omega (
         arith,
         tally-le-at workS share noAgent (r .agents) (λ k h. slot-work (slotAt r k) (home-sized k) (omega (arith, far-seated, tally-at farS noAgent (r .agents) k h))),
-        tally-bound z share z z (λ x. sumTo 16 (λ d. queueD d x)) (λ x. sumTo 16 (λ d. listedS d x)) z (λ x e. omega arith) (r .agents) (tally-zero (r .agents)),
+        tally-bound z share z z (λ x. sumTo clients (λ d. queueD d x)) (λ x. sumTo clients (λ d. listedS d x)) z (λ x e. omega arith) (r .agents) (tally-zero (r .agents)),
         tally-zero (r .agents),
       )
 
-  wire-work : tally workP ps + 4 * tally (λ p. sumTo 16 (λ d. owedP d p)) ps
-      ≤ 2 * tally agentP ps + 7 * tally (λ p. sumTo 16 (λ d. waitD d p)) ps + 3 * tally (λ p. sumTo 16 (λ d. listedP d p)) ps + 5 * tally (λ p. sumTo 16 (λ d. releaseP d p)) ps
+  wire-work : tally workP ps + 4 * tally (λ p. sumTo clients (λ d. owedP d p)) ps
+      ≤ 2 * tally agentP ps + 7 * tally (λ p. sumTo clients (λ d. waitD d p)) ps + 3 * tally (λ p. sumTo clients (λ d. listedP d p)) ps + 5 * tally (λ p. sumTo clients (λ d. releaseP d p)) ps
   wire-work =
       tally-bound (λ p. misfitP (r .decider .owner) p + farS (p .carried)) workP _ agentP _ _ _ (packet-work (r .decider .owner)) ps
       (omega (arith, tally-add (misfitP (r .decider .owner)) (λ p. farS (p .carried)) ps, i .fitting, far-carried))
@@ -233,10 +237,10 @@ module _ (r : LockState) (i : Inv r) where
         tally-add (queuedS d Exclusive) (queuedS d Shared) (r .agents),
       )
 
-  clients-work : tally workC (r .clients) ≡ sumTo 16 holdsOf
-  clients-work = rw (i .sixteen) at (tally-sum workC idle (r .clients))
+  clients-work : tally workC (r .clients) ≡ sumTo clients holdsOf
+  clients-work = rw (i .all-clients) at (tally-sum workC idle (r .clients))
 
-  pub work-bound : work r ≤ 114
+  pub work-bound : work r ≤ workBound
   unfolding work weight
   work-bound =
       omega (
@@ -244,15 +248,15 @@ module _ (r : LockState) (i : Inv r) where
         wire-work,
         seats-work,
         clients-work,
-        sum-bound 16 waitsOf listsOf (λ d. tally (releaseP d) ps) holdsOf (λ d. tally (owedP d) ps) each-client,
-        sum-add 16 (λ d. tally (waitD d) ps) (λ d. tally (queueD d) (r .agents)),
-        sum-add 16 (λ d. tally (listedP d) ps) (λ d. tally (listedS d) (r .agents)),
-        sum-swap 16 owedP ps,
-        sum-swap 16 waitD ps,
-        sum-swap 16 listedP ps,
-        sum-swap 16 releaseP ps,
-        sum-swap 16 queueD (r .agents),
-        sum-swap 16 listedS (r .agents),
+        sum-bound clients waitsOf listsOf (λ d. tally (releaseP d) ps) holdsOf (λ d. tally (owedP d) ps) each-client,
+        sum-add clients (λ d. tally (waitD d) ps) (λ d. tally (queueD d) (r .agents)),
+        sum-add clients (λ d. tally (listedP d) ps) (λ d. tally (listedS d) (r .agents)),
+        sum-swap clients owedP ps,
+        sum-swap clients waitD ps,
+        sum-swap clients listedP ps,
+        sum-swap clients releaseP ps,
+        sum-swap clients queueD (r .agents),
+        sum-swap clients listedS (r .agents),
         i .agent,
         owned-one (r .decider .owner),
       )

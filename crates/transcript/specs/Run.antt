@@ -1,6 +1,6 @@
 -- The run of a transcript, record by record: where a record ends, and what is left of the run behind it.
 use mathlib.Core.Path.{_≡_, refl, sym, ap, subst, _∙_}
-use mathlib.Core.Bool.{Bool, true, false, _&&_, not}
+use mathlib.Core.Bool.{Bool, true, false, _&&_}
 use mathlib.Core.List.{List}
 use Prim.Native.Nat.{ℕ, suc, _+_, _-_, _*_, _<_, _≤_}
 use native.Mathlib.Omega.{arith}
@@ -19,20 +19,17 @@ use Rattle.model.specs.declared.Stepped.{Stepped}
 use Rattle.model.specs.declared.Outcome.{Outcome}
 use Rattle.model.specs.declared.Reading.{Reading}
 use Rattle.model.specs.declared.Reading.the-variants.{Record, Bad, End}
-use Rattle.model.specs.declared.Replayed.{Replayed}
 use Rattle.model.specs.Lists.{pick}
-use Rattle.model.specs.States.{freshLock}
+use Rattle.model.specs.States.{locks}
 use Rattle.model.specs.WellFormed.{wellFormed}
 use Rattle.model.specs.Refusals.{first}
 use Rattle.model.specs.Changes.{refused}
 use Rattle.model.specs.Calls.{perform}
 use Rattle.model.specs.Transcripts.{short, acquireAt, releaseAt, deliverAt, wholeRecord, readRecord, replayed, replayFrom, replayUnless, replay}
 use Rattle.laws.specs.Tests.{and-right}
-use Rattle.laws.specs.Lists.{getD-any}
-use Rattle.laws.specs.Formed.{eight}
 use Rattle.laws.specs.Opened.{lockOf}
 use Rattle.laws.specs.Clusters.{perform-formed}
-use Rattle.engine.specs.Within.{callWithin, perform-range, writtenBy, perform-written, written-formed}
+use Rattle.engine.specs.Within.{callWithin, lock-read, perform-range, writtenBy, perform-written, written-formed}
 
 -- ---- a record has at least six bytes, and ends within the transcript
 data Ends (bytes : List ℕ) (i : ℕ) : Reading → Type 0 where
@@ -66,9 +63,9 @@ record-ends bytes i c j e = go (rw e at (reading-ends bytes i))
     go (inside h k) = (h, k)
 
 -- ---- a call on its lock's state, written back in its place
-module _ (c : Call) (y : Cluster) (l : LockId) (d : LockState) (o : Stepped) (w : wellFormed y ≡ true) (e : l ≡ lockOf c) (h : l .0 < 8) (q : o ≡ callWithin c (getD (y .locks) (l .0) d)) where
+module _ (c : Call) (y : Cluster) (l : LockId) (d : LockState) (o : Stepped) (w : wellFormed y ≡ true) (e : l ≡ lockOf c) (h : l .0 < locks) (q : o ≡ callWithin c (getD (y .locks) (l .0) d)) where
   in-place : _≡_ {A = Cluster} (record { locks = set (y .locks) (l .0) (o .state) }) (writtenBy c y)
-  in-place = rw (q, getD-any (y .locks) (l .0) d freshLock (omega (arith, eight y w)), e)
+  in-place = rw (q, lock-read y l d w h, e)
 
   pub place-formed : wellFormed (record { locks = set (y .locks) (l .0) (o .state) }) ≡ true
   place-formed = rw in-place (written-formed c y w (rw e at h))
@@ -111,18 +108,18 @@ module _ {bytes : List ℕ} {x : Cluster} {i n : ℕ} {y : Cluster} (p : Course 
         inside = h .1;
       }
 
-  pub course-step : (c : Call) (j : ℕ) (l : LockId) (d : LockState) (o : Stepped) → readRecord bytes i ≡ Record c j → l ≡ lockOf c → l .0 < 8
+  pub course-step : (c : Call) (j : ℕ) (l : LockId) (d : LockState) (o : Stepped) → readRecord bytes i ≡ Record c j → l ≡ lockOf c → l .0 < locks
       → o ≡ callWithin c (getD (y .locks) (l .0) d) → Course bytes x j (n + 1) (record { locks = set (y .locks) (l .0) (o .state) })
   course-step c j l d o e q h f =
       let w = p .formed in
       rw (in-place c y l d o w q h f, ← perform-written c y w (rw q at h)) (course-on c j e)
 
-  pub course-refused : (c : Call) (j : ℕ) (l : LockId) (d : LockState) (r : Refusal) → readRecord bytes i ≡ Record c j → l ≡ lockOf c → l .0 < 8
+  pub course-refused : (c : Call) (j : ℕ) (l : LockId) (d : LockState) (r : Refusal) → readRecord bytes i ≡ Record c j → l ≡ lockOf c → l .0 < locks
       → refused r (getD (y .locks) (l .0) d) ≡ callWithin c (getD (y .locks) (l .0) d) → Course bytes x j (n + 1) y
   course-refused c j l d r e q h f =
       subst (λ (ls : List LockState). Course bytes x j (n + 1) (record { locks = ls })) (set-getD (y .locks) (l .0) d) (course-step c j l d _ e q h f)
 
-  pub course-skip : (c : Call) (j : ℕ) (l : LockId) → readRecord bytes i ≡ Record c j → l ≡ lockOf c → 8 ≤ l .0 → Course bytes x j (n + 1) y
+  pub course-skip : (c : Call) (j : ℕ) (l : LockId) → readRecord bytes i ≡ Record c j → l ≡ lockOf c → locks ≤ l .0 → Course bytes x j (n + 1) y
   course-skip c j l e q h =
       let f = ap (λ (r : Outcome). r .cluster) (perform-range c y (p .formed) (rw q at h)) in
       subst (λ (z : Cluster). Course bytes x j (n + 1) z) f (course-on c j e)

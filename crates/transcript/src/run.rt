@@ -6,6 +6,7 @@ use engine::within::lock_of;
 use engine::within::plan_call;
 use model::Answer;
 use model::Cluster;
+use model::LOCKS;
 use model::Reading;
 use model::Refusal;
 use model::Replayed;
@@ -27,7 +28,7 @@ fn ended(answer: Answer, records: u16, cluster: Cluster) -> Replayed
     }
 }
 
-// A refused step does not stop the reading; a lock above 7 has no state to step on.
+// A refused step does not stop the reading; a lock out of range has no state to step on.
 fn run_records(x: Cluster, bytes: &[u8]) -> Replayed
     requires { ⌜ (wellFormed x ≡ true) × (length (now bytes) ≤ 65535) ⌝ }
     ensures { λ r. ⌜ r ≡ replayFrom (length (now (bytes .entry)) + 1) (now (bytes .entry)) 0 0 x ⌝ }
@@ -40,7 +41,7 @@ fn run_records(x: Cluster, bytes: &[u8]) -> Replayed
         match r {
             Reading::Record { call, next } => {
                 let l = lock_of(call);
-                if l.0 < 8 {
+                if l.0 < LOCKS as u8 {
                     let i = l.0 as usize;
                     let s = y.locks[i];
                     let p = plan_call(call, s);

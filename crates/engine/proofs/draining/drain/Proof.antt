@@ -13,4 +13,4 @@ returns-3 : tie.Need-returns-3
 returns-3 c = c .drain-refused2 .ensures ∙ drain-malformed _ _ (sym (c .before .before .well-formed .ensures) ∙ c .before .if1 .left)
 
 pub drain-spec : {M : Type 1} → statement M
-drain-spec = tie.close (tie.spec (λ c κs. search needs) drain-lock-requires (λ c κs. search needs) (λ c κs. search needs) (λ c. search needs) returns-2 returns-3)
+drain-spec = tie.close (tie.spec (λ c κs. search needs) (λ c. search needs) drain-lock-requires (λ c κs. search needs) (λ c κs. search needs) (λ c. search needs) returns-2 returns-3)

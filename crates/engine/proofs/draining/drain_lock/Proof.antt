@@ -1,4 +1,4 @@
-use Rattle.engine.proofs.Base.{_∙_, ap, arith, needs, LockState, freshLock, getD-any, eight, lock-formed, sweep, drain-ends, drain-stops}
+use Rattle.engine.proofs.Base.{_∙_, ap, arith, needs, LockState, lock-read, lock-formed, sweep, allowance, drain-ends, drain-stops}
 use Rattle.engine.proofs.draining.drain_lock.Statement.{statement}
 use Rattle.engine.proofs.draining.drain_lock.Tie as tie
 
@@ -7,7 +7,7 @@ deliver-phase-requires c κs =
     let s = c .before .before in
     let x = s .args .t1 in
     let l = s .args .l in
-    (rw (getD-any (x .locks) (l .0) _ freshLock (omega (arith, eight x (s .pre .0), s .pre .1))) (lock-formed x l (s .pre .0) (s .pre .1)), omega arith)
+    (rw (lock-read x l _ (s .pre .0) (s .pre .1)) (lock-formed x l (s .pre .0) (s .pre .1)), omega arith)
 
 returns : tie.Need-returns
 returns c =
@@ -15,8 +15,8 @@ returns c =
     let s = b .before .before .before in
     let x = s .args .t1 in
     let l = s .args .l in
-    let e = getD-any (x .locks) (l .0) _ freshLock (omega (arith, eight x (s .pre .0), s .pre .1)) in
-    drain-ends x l (s .pre .0) (s .pre .1) _ (b .deliver-phase .ensures l ∙ ap (λ (t : LockState). sweep 16384 0 l t) e) (c .before .enum-told .given .1)
+    let e = lock-read x l _ (s .pre .0) (s .pre .1) in
+    drain-ends x l (s .pre .0) (s .pre .1) _ (b .deliver-phase .ensures l ∙ ap (λ (t : LockState). sweep allowance 0 l t) e) (c .before .enum-told .given .1)
 
 returns-2 : tie.Need-returns-2
 returns-2 c =
@@ -24,10 +24,8 @@ returns-2 c =
     let s = b .before .before .before in
     let x = s .args .t1 in
     let l = s .args .l in
-    let e = getD-any (x .locks) (l .0) _ freshLock (omega (arith, eight x (s .pre .0), s .pre .1)) in
-    c .drain-refused .ensures ∙ drain-stops x l (s .pre .0) (s .pre .1) _ _ (b .deliver-phase .ensures l ∙ ap (λ (t : LockState). sweep 16384 0 l t) e) (c .before .before .a .given .1)
+    let e = lock-read x l _ (s .pre .0) (s .pre .1) in
+    c .drain-refused .ensures ∙ drain-stops x l (s .pre .0) (s .pre .1) _ _ (b .deliver-phase .ensures l ∙ ap (λ (t : LockState). sweep allowance 0 l t) e) (c .before .before .a .given .1)
 
 pub drain-lock-spec : {M : Type 1} → statement M
-drain-lock-spec =
-    tie.close
-    (tie.spec (λ c. search needs) (λ c. search needs) (λ c. search needs) deliver-phase-requires (λ c. search needs) (λ c. search needs) (λ c. search needs) (λ c. search needs) (λ c κs. search needs) returns returns-2)
+drain-lock-spec = tie.close (tie.spec (λ c. search needs) (λ c. search needs) (λ c. search needs) deliver-phase-requires (λ c. search needs) (λ c. search needs) (λ c. search needs) (λ c. search needs) (λ c κs. search needs) returns returns-2)

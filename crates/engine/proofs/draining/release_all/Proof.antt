@@ -54,4 +54,4 @@ returns-4 c =
     rw (c .leg-of4 .ensures) (leg-on (l .0) _, λ e. omega (arith, ne, l .0 .fewer))
 
 pub release-all-spec : {M : Type 1} → statement M
-release-all-spec = tie.close (tie.spec Inv-loop μ-loop loop-holds (λ c κs. search needs) (λ c κs. search needs) returns (λ c κs. search needs) returns-2 plan-release-requires (λ c. search needs) (λ c. search needs) (λ c κs. search needs) returns-3 carry-out-requires (λ c. search needs) add-m (λ c. search needs) loop-again (λ c κs. search needs) returns-4)
+release-all-spec = tie.close (tie.spec Inv-loop μ-loop loop-holds (λ c κs. search needs) (λ c. search needs) (λ c κs. search needs) returns (λ c κs. search needs) returns-2 plan-release-requires (λ c. search needs) (λ c. search needs) (λ c κs. search needs) returns-3 carry-out-requires (λ c. search needs) add-m (λ c. search needs) loop-again (λ c κs. search needs) returns-4)

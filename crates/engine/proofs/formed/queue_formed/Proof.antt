@@ -1,17 +1,11 @@
-use Rattle.engine.proofs.Base.{needs, sym, _∙_, shaped-short, isBlankWaiter, queueFormed}
+use Rattle.engine.proofs.Base.{needs, queueCapacity, sym, _∙_, shaped-short, isBlankWaiter, queueFormed}
 use Rattle.engine.proofs.formed.queue_formed.Statement.{statement}
 use Rattle.engine.proofs.formed.queue_formed.Tie as tie
-
-cast-n : tie.Need-cast-n
-cast-n c = search needs
-
-shaped-waiters-requires : tie.Need-shaped-waiters-requires
-shaped-waiters-requires c κs = search needs
 
 waiters-formed-requires : tie.Need-waiters-formed-requires
 waiters-formed-requires c κs =
     let q = c .before .before .before .before .args .q in
-    shaped-short 16 isBlankWaiter (q .slots) (q .len) (sym (c .before .shaped-waiters .ensures) ∙ c .if1 .taken)
+    shaped-short queueCapacity isBlankWaiter (q .slots) (q .len) (sym (c .before .shaped-waiters .ensures) ∙ c .if1 .taken)
 
 returns : tie.Need-returns
 unfolding queueFormed
@@ -22,6 +16,4 @@ unfolding queueFormed
 returns-2 c = rw (sym (c .before .shaped-waiters .ensures) ∙ c .if1 .left)
 
 pub queue-formed-spec : {M : Type 1} → statement M
-queue-formed-spec =
-    tie.close
-    (tie.spec cast-n shaped-waiters-requires waiters-formed-requires returns returns-2)
+queue-formed-spec = tie.close (tie.spec (λ c. search needs) (λ c κs. search needs) waiters-formed-requires returns returns-2)

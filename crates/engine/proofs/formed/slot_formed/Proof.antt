@@ -2,12 +2,6 @@ use Rattle.engine.proofs.Base.{needs, sym, ap, _∙_, Bool, slotBy, slo
 use Rattle.engine.proofs.formed.slot_formed.Statement.{statement}
 use Rattle.engine.proofs.formed.slot_formed.Tie as tie
 
-agent-formed-requires : tie.Need-agent-formed-requires
-agent-formed-requires c κs = search needs
-
-is-blank-agent-requires : tie.Need-is-blank-agent-requires
-is-blank-agent-requires c κs = search needs
-
 returns : tie.Need-returns
 unfolding slotFormed
 returns c = c .agent-formed .ensures ∙ sym (ap (λ (b : Bool). slotBy b (c .before .before .args .x .agent)) (c .before .if1 .taken))
@@ -17,6 +11,4 @@ unfolding slotFormed
 returns-2 c = c .is-blank-agent .ensures ∙ sym (ap (λ (b : Bool). slotBy b (c .before .before .args .x .agent)) (c .before .if1 .left))
 
 pub slot-formed-spec : {M : Type 1} → statement M
-slot-formed-spec =
-    tie.close
-    (tie.spec agent-formed-requires is-blank-agent-requires returns returns-2)
+slot-formed-spec = tie.close (tie.spec (λ c κs. search needs) (λ c κs. search needs) returns returns-2)

@@ -1,17 +1,11 @@
-use Rattle.engine.proofs.Base.{needs, sym, _∙_, shaped-short, isBlankPacket, wireFormed}
+use Rattle.engine.proofs.Base.{needs, wireCapacity, sym, _∙_, shaped-short, isBlankPacket, wireFormed}
 use Rattle.engine.proofs.formed.wire_formed.Statement.{statement}
 use Rattle.engine.proofs.formed.wire_formed.Tie as tie
-
-cast-n : tie.Need-cast-n
-cast-n c = search needs
-
-shaped-packets-requires : tie.Need-shaped-packets-requires
-shaped-packets-requires c κs = search needs
 
 packets-formed-requires : tie.Need-packets-formed-requires
 packets-formed-requires c κs =
     let w = c .before .before .before .before .args .w in
-    shaped-short 33 isBlankPacket (w .slots) (w .len) (sym (c .before .shaped-packets .ensures) ∙ c .if1 .taken)
+    shaped-short wireCapacity isBlankPacket (w .slots) (w .len) (sym (c .before .shaped-packets .ensures) ∙ c .if1 .taken)
 
 returns : tie.Need-returns
 unfolding wireFormed
@@ -22,6 +16,4 @@ unfolding wireFormed
 returns-2 c = rw (sym (c .before .shaped-packets .ensures) ∙ c .if1 .left)
 
 pub wire-formed-spec : {M : Type 1} → statement M
-wire-formed-spec =
-    tie.close
-    (tie.spec cast-n shaped-packets-requires packets-formed-requires returns returns-2)
+wire-formed-spec = tie.close (tie.spec (λ c. search needs) (λ c κs. search needs) packets-formed-requires returns returns-2)

@@ -1,9 +1,9 @@
-use Rattle.parts.proofs.Base.{_≡_, _∙_, _-_, _<_, arith, length, length-set, needs, blankWaiter, cutUsed, cutUsed-step, cutUsed-last}
+use Rattle.parts.proofs.Base.{_≡_, _∙_, _-_, _<_, arith, length, length-set, needs, blankWaiter, cutUsed, cutUsed-step, cutUsed-last, queueCapacity}
 use Rattle.parts.proofs.queue.cut_waiters.Statement.{statement}
 use Rattle.parts.proofs.queue.cut_waiters.Tie as tie
 
 abbrev Inv-loop : tie.InvT-loop
-Inv-loop n b₀ j₀ b j = (cutUsed b j n blankWaiter ≡ cutUsed b₀ j₀ n blankWaiter) × ((length b ≡ 16) × (j < n))
+Inv-loop n b₀ j₀ b j = (cutUsed b j n blankWaiter ≡ cutUsed b₀ j₀ n blankWaiter) × ((length b ≡ queueCapacity) × (j < n))
 
 abbrev μ-loop : tie.MeasureT-loop
 μ-loop n b₀ j₀ b j = n - j
@@ -21,22 +21,4 @@ returns c =
     rw (c .blank-waiter .ensures) (cutUsed-last (l .b) (l .j) (s .args .n) blankWaiter (omega arith) (omega arith)) ∙ l .inv .0
 
 pub cut-waiters-spec : {M : Type 1} → statement M
-cut-waiters-spec =
-    tie.close
-    (tie.spec
-    Inv-loop
-    μ-loop
-    (λ c. search needs)
-    (λ c. search needs)
-    (λ c. search needs)
-    (λ c. search needs)
-    (λ c. search needs)
-    (λ c. search needs)
-    (λ c. search needs)
-    (λ c. search needs)
-    (λ c. search needs)
-    loop-again
-    (λ c κs. search needs)
-    (λ c. search needs)
-    (λ c. search needs)
-    returns)
+cut-waiters-spec = tie.close (tie.spec Inv-loop μ-loop (λ c. search needs) (λ c. search needs) (λ c. search needs) (λ c. search needs) (λ c. search needs) (λ c. search needs) (λ c. search needs) (λ c. search needs) (λ c. search needs) loop-again (λ c κs. search needs) (λ c. search needs) (λ c. search needs) returns)

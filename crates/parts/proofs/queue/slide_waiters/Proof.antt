@@ -1,9 +1,9 @@
-use Rattle.parts.proofs.Base.{_≡_, _∙_, _<_, arith, length, length-set, needs, slid, slid-down, slid-last}
+use Rattle.parts.proofs.Base.{_≡_, _∙_, _<_, arith, length, length-set, needs, slid, slid-down, slid-last, queueCapacity}
 use Rattle.parts.proofs.queue.slide_waiters.Statement.{statement}
 use Rattle.parts.proofs.queue.slide_waiters.Tie as tie
 
 abbrev Inv-loop : tie.InvT-loop
-Inv-loop n w b₀ j₀ b j = (slid b j w ≡ slid b₀ j₀ w) × ((length b ≡ 16) × (j < 16))
+Inv-loop n w b₀ j₀ b j = (slid b j w ≡ slid b₀ j₀ w) × ((length b ≡ queueCapacity) × (j < queueCapacity))
 
 abbrev μ-loop : tie.MeasureT-loop
 μ-loop n w b₀ j₀ b j = j
@@ -20,19 +20,4 @@ returns c =
     slid-last (l .b) (c .before .before .args .w) (omega arith) ∙ rw e at (l .inv .0)
 
 pub slide-waiters-spec : {M : Type 1} → statement M
-slide-waiters-spec =
-    tie.close
-    (tie.spec
-    Inv-loop
-    μ-loop
-    (λ c. search needs)
-    (λ c. search needs)
-    (λ c. search needs)
-    (λ c. search needs)
-    (λ c. search needs)
-    (λ c. search needs)
-    (λ c. search needs)
-    (λ c. search needs)
-    loop-again
-    (λ c. search needs)
-    returns)
+slide-waiters-spec = tie.close (tie.spec Inv-loop μ-loop (λ c. search needs) (λ c. search needs) (λ c. search needs) (λ c. search needs) (λ c. search needs) (λ c. search needs) (λ c. search needs) (λ c. search needs) loop-again (λ c. search needs) returns)

@@ -1,4 +1,4 @@
-use Rattle.parts.proofs.Base.{_≡_, sym, _∙_, _-_, _≤_, arith, length, take, drop, needs, eq-eqb, ne-eqb, any, blankWaiter, isClient, used-hit, used-miss, used-none}
+use Rattle.parts.proofs.Base.{_≡_, sym, _∙_, _-_, _≤_, arith, length, take, drop, needs, eq-eqb, ne-eqb, any, blankWaiter, isClient, used-hit, used-miss, used-none, queueCapacity}
 use Rattle.parts.proofs.queue.waiting_in.Statement.{statement}
 use Rattle.parts.proofs.queue.waiting_in.Tie as tie
 
@@ -12,33 +12,21 @@ returns : tie.Need-returns Inv-loop μ-loop
 returns c =
     let s = c .before .before .before .before .before .before .args in
     let l = c .before .before .before .before .before .loop in
-    let n : length (s .t1) ≡ 16 = search needs in
+    let n : length (s .t1) ≡ queueCapacity = search needs in
     sym (used-hit (isClient (s .c)) (s .t1) (s .n) (l .j) _ (omega arith) (omega arith) (eq-eqb _ _ (c .if1 .taken))) ∙ l .inv .0
 
 loop-again : tie.Need-loop-again Inv-loop μ-loop
 loop-again c =
     let s = c .before .before .before .before .before .before .args in
     let l = c .before .before .before .before .before .loop in
-    let n : length (s .t1) ≡ 16 = search needs in
+    let n : length (s .t1) ≡ queueCapacity = search needs in
     (used-miss (isClient (s .c)) (s .t1) (s .n) (l .j) _ (omega arith) (omega arith) (ne-eqb _ _ (c .if1 .left)) ∙ l .inv .0, omega arith)
 
 returns-2 : tie.Need-returns-2 Inv-loop μ-loop
 returns-2 c =
     let s = c .before .before .args in
-    let n : length (s .t1) ≡ 16 = search needs in
+    let n : length (s .t1) ≡ queueCapacity = search needs in
     sym (used-none (isClient (s .c)) (s .t1) (s .n) (c .before .loop .j) blankWaiter (omega arith) (omega arith)) ∙ c .before .loop .inv .0
 
 pub waiting-in-spec : {M : Type 1} → statement M
-waiting-in-spec =
-    tie.close
-    (tie.spec
-    Inv-loop
-    μ-loop
-    (λ c. search needs)
-    (λ c. search needs)
-    (λ c. search needs)
-    returns
-    (λ c. search needs)
-    (λ c. search needs)
-    loop-again
-    returns-2)
+waiting-in-spec = tie.close (tie.spec Inv-loop μ-loop (λ c. search needs) (λ c. search needs) (λ c. search needs) returns (λ c. search needs) (λ c. search needs) loop-again returns-2)

@@ -1,9 +1,9 @@
-use Rattle.parts.proofs.Base.{_≡_, sym, _∙_, _-_, _≤_, arith, length, length-set, needs, blankPacket, cutUsed-step, cutUsed-last, cutAt, cutAt-in, cutAt-out}
+use Rattle.parts.proofs.Base.{_≡_, sym, _∙_, _-_, _≤_, arith, length, length-set, needs, blankPacket, cutUsed-step, cutUsed-last, cutAt, cutAt-in, cutAt-out, wireCapacity}
 use Rattle.parts.proofs.wire.cut_packets.Statement.{statement}
 use Rattle.parts.proofs.wire.cut_packets.Tie as tie
 
 abbrev Inv-loop : tie.InvT-loop
-Inv-loop i n b₀ j₀ b j = (cutAt b j n blankPacket ≡ cutAt b₀ j₀ n blankPacket) × ((length b ≡ 33) × (j ≤ 255))
+Inv-loop i n b₀ j₀ b j = (cutAt b j n blankPacket ≡ cutAt b₀ j₀ n blankPacket) × ((length b ≡ wireCapacity) × (j ≤ 255))
 
 abbrev μ-loop : tie.MeasureT-loop
 μ-loop i n b₀ j₀ b j = n - j

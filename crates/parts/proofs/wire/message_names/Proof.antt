@@ -12,14 +12,4 @@ returns-4 : tie.Need-returns-4
 returns-4 c = rw (c .before .before .before .m3 .given .1)
 
 pub message-names-spec : {M : Type 1} → statement M
-message-names-spec =
-    tie.close
-    (tie.spec
-    (λ c. search needs)
-    (λ c. search needs)
-    (λ c. search needs)
-    (λ c. search needs)
-    (λ c. search needs)
-    returns-2
-    returns-3
-    returns-4)
+message-names-spec = tie.close (tie.spec (λ c. search needs) (λ c. search needs) (λ c. search needs) (λ c. search needs) (λ c. search needs) returns-2 returns-3 returns-4)

@@ -3,13 +3,11 @@ use mathlib.Core.Path.{_≡_}
 use mathlib.Core.Bool.{true}
 use mathlib.Core.Logic.{⊎-elim}
 use Prim.Native.Nat.{_-_}
-use native.Mathlib.Omega.{arith}
 use borrow.Author.Needs.{needs}
-use Rattle.model.specs.States.{freshLock}
 use Rattle.model.specs.WellFormed.{wellFormed}
-use Rattle.laws.specs.Lists.{getD-any}
-use Rattle.laws.specs.Formed.{eight, lock-formed}
+use Rattle.laws.specs.Formed.{lock-formed}
 use Rattle.laws.specs.Clusters.{fresh-formed}
+use Rattle.engine.specs.Within.{lock-read}
 use Rattle.transcript.specs.Run.{place-formed}
 use Rattle.replay.proofs.listing.list_records.Statement.{statement}
 use Rattle.replay.proofs.listing.list_records.Tie as tie
@@ -29,7 +27,7 @@ call-within-requires c κs =
     let l = b .before .before .before .before .before .before .before .before .loop in
     let h = c .before .before .if1 .taken in
     let w = l .inv in
-    rw (getD-any (l .x .locks) (b .lock-of .result .0) _ freshLock (omega (arith, eight (l .x) w, h))) (lock-formed (l .x) (b .lock-of .result) w h)
+    rw (lock-read (l .x) (b .lock-of .result) _ w h) (lock-formed (l .x) (b .lock-of .result) w h)
 
 loop-again : tie.Need-loop-again Inv-loop μ-loop
 loop-again c =
@@ -42,5 +40,5 @@ pub list-records-spec : {M : Type 1} → statement M
 list-records-spec =
     tie.close
     (tie.spec Inv-loop μ-loop (λ c κs. search needs) loop-holds (λ c κs. search needs) (λ c κs. search needs) (λ c. search needs) (λ c κs. search needs) (λ c. search needs)
-    (λ c. search needs) (λ c. search needs) call-within-requires (λ c. search needs) (λ c. search needs) (λ c κs. search needs) (λ c κs. search needs) (λ c κs. search needs) (λ c κs. search needs)
+    (λ c. search needs) (λ c. search needs) (λ c. search needs) call-within-requires (λ c. search needs) (λ c. search needs) (λ c κs. search needs) (λ c κs. search needs) (λ c κs. search needs) (λ c κs. search needs)
     (λ c. search needs) (λ c κs. search needs) (λ c. search needs) (λ c. search needs) (λ c. search needs) (λ c. search needs) (λ c. search needs) loop-again (λ c. search needs))

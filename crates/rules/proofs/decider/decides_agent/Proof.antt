@@ -8,7 +8,7 @@ returns c = rw (c .cannot-place .ensures, c .before .enum-told .given .1)
 
 returns-2 : tie.Need-returns-2
 unfolding decidesGrant
-returns-2 c = rw (c .before .before .before .before .before .before .o .given .1, c .pass-agent .ensures) (sym (pick-yes _ (sym (c .before .before .before .before .is-current .ensures) ∙ c .before .before .before .if1 .taken)))
+returns-2 c = rw (c .before .before .before .before .before .before .o .given .1, c .grants-with .ensures) (sym (pick-yes _ (sym (c .before .before .before .before .is-current .ensures) ∙ c .before .before .before .if1 .taken)))
 
 returns-3 : tie.Need-returns-3
 unfolding decidesGrant

@@ -3,7 +3,7 @@ use Rattle.rules.proofs.decider.grants_first.Statement.{statement}
 use Rattle.rules.proofs.decider.grants_first.Tie as tie
 
 returns : tie.Need-returns
-returns c = rw (c .pass-agent .ensures, c .before .new-agent .ensures)
+returns c = rw (c .grants-with .ensures, c .before .new-agent .ensures)
 
 pub grants-first-spec : {M : Type 1} → statement M
 grants-first-spec = tie.close (tie.spec (λ c κs. search needs) (λ c κs. search needs) returns)

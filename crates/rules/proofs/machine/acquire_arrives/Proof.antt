@@ -12,7 +12,7 @@ returns-2 c = rw (c .unmarked-arrives .ensures, c .before .before .if1 .taken, c
 
 returns-3 : tie.Need-returns-3
 unfolding acquired
-returns-3 c = rw (c .sending .ensures, c .before .bounce .ensures, c .before .before .if1 .left)
+returns-3 c = rw (c .sending .ensures, c .before .sent-back .ensures, c .before .before .if1 .left)
 
 pub acquire-arrives-spec : {M : Type 1} → statement M
 acquire-arrives-spec = tie.close (tie.spec (λ c κs. search needs) (λ c κs. search needs) (λ c κs. search needs) (λ c κs. search needs) returns returns-2 returns-3)

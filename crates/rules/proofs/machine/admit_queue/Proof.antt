@@ -4,7 +4,7 @@ use Rattle.rules.proofs.machine.admit_queue.Tie as tie
 
 admit-all-requires : tie.Need-admit-all-requires
 unfolding waiters
-admit-all-requires c κs = (c .before .before .before .pre .short, rw (c .before .before .empty-queue .ensures) (room-start (c .before .before .before .args .g) (c .before .before .before .args .q) (c .before .before .before .pre)))
+admit-all-requires c κs = (c .before .before .before .pre .short, rw (c .before .before .empty-queue .ensures) (room-start (c .before .before .before .args .g) _ (c .before .before .before .pre .short)))
 
 returns : tie.Need-returns
 unfolding waiters

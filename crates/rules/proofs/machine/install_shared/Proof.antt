@@ -1,9 +1,9 @@
-use Rattle.rules.proofs.Base.{needs, waiters-of, admitted, staying, installs}
+use Rattle.rules.proofs.Base.{needs, waiters-of, installs}
 use Rattle.rules.proofs.machine.install_shared.Statement.{statement}
 use Rattle.rules.proofs.machine.install_shared.Tie as tie
 
 returns : tie.Need-returns
-unfolding installs admitted staying
+unfolding installs
 returns c = rw (c .seating-telling .ensures, c .before .seat .ensures, c .before .before .grants-to .ensures, c .before .before .before .before .before .admit-queue .ensures, c .before .before .before .before .before .before .set-holder .ensures, waiters-of)
 
 pub install-shared-spec : {M : Type 1} → statement M

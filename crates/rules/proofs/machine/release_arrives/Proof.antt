@@ -8,7 +8,7 @@ returns c = rw (c .leave .ensures) (sym (pick-yes _ (sym (c .before .before .lis
 
 returns-2 : tie.Need-returns-2
 unfolding released
-returns-2 c = rw (c .sending .ensures, c .before .bounce .ensures) (sym (pick-no _ (sym (c .before .before .before .listed .ensures) ∙ c .before .before .if1 .left)))
+returns-2 c = rw (c .sending .ensures, c .before .sent-back .ensures) (sym (pick-no _ (sym (c .before .before .before .listed .ensures) ∙ c .before .before .if1 .left)))
 
 pub release-arrives-spec : {M : Type 1} → statement M
 release-arrives-spec = tie.close (tie.spec (λ c κs. search needs) (λ c κs. search needs) (λ c κs. search needs) (λ c κs. search needs) returns returns-2)

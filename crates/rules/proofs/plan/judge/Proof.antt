@@ -17,4 +17,4 @@ returns-3 : tie.Need-returns-3
 returns-3 c = λ s l. rw (← finish-stuck (c .before .before .args .k) (c .before .before .args .u) (c .before .before .args .e) (removed (packets (s .wire)) (c .before .before .args .i)) s (c .before .if1 .left)) (c .refuse2 .ensures s)
 
 pub judge-spec : {M : Type 1} → statement M
-judge-spec = tie.close (tie.spec (λ c κs. search needs) add-if2 (λ c κs. search needs) (λ c κs. search needs) returns returns-2 returns-3)
+judge-spec = tie.close (tie.spec (λ c κs. search needs) add-if2 (λ c. search needs) (λ c κs. search needs) (λ c κs. search needs) returns returns-2 returns-3)

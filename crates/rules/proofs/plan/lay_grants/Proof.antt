@@ -1,9 +1,9 @@
-use Rattle.rules.proofs.Base.{_≡_, _∙_, map, _+_, _-_, _≤_, arith, length, take, drop, length-set, sets, needs, blankWaiter, opened, closed, grantOf, add-one}
+use Rattle.rules.proofs.Base.{_≡_, _∙_, map, _+_, _-_, _≤_, arith, length, take, drop, length-set, sets, needs, blankWaiter, opened, closed, grantOf, add-one, queueCapacity, wireCapacity}
 use Rattle.rules.proofs.plan.lay_grants.Statement.{statement}
 use Rattle.rules.proofs.plan.lay_grants.Tie as tie
 
 abbrev Inv-loop : tie.InvT-loop
-Inv-loop n m ws b₀ j₀ b j = (sets b (n + j) (map grantOf (drop j (take m ws))) ≡ sets b₀ n (map grantOf (take m ws))) × ((length b ≡ 33) × (j ≤ m))
+Inv-loop n m ws b₀ j₀ b j = (sets b (n + j) (map grantOf (drop j (take m ws))) ≡ sets b₀ n (map grantOf (take m ws))) × ((length b ≡ wireCapacity) × (j ≤ m))
 
 abbrev μ-loop : tie.MeasureT-loop
 μ-loop n m ws b₀ j₀ b j = m - j
@@ -12,7 +12,7 @@ loop-holds : tie.Need-loop-holds Inv-loop μ-loop
 loop-holds c =
     let s = c .args in
     let n : s .n + 0 ≡ s .n = omega arith in
-    let l : length (s .a) ≡ 33 = search needs in
+    let l : length (s .a) ≡ wireCapacity = search needs in
     (rw n, (l, omega arith))
 
 loop-again : tie.Need-loop-again Inv-loop μ-loop
@@ -20,7 +20,7 @@ loop-again c =
     let b = c .before .before .before in
     let s = b .before .before .args in
     let l = b .before .loop in
-    let n : length (s .t3) ≡ 16 = search needs in
+    let n : length (s .t3) ≡ queueCapacity = search needs in
     let o = opened (s .t3) (s .m) (l .j) blankWaiter (omega arith) (omega arith) in
     let e : s .n + (l .j + 1) ≡ (s .n + l .j) + 1 = omega arith in
     (rw (c .plain-packet .ensures, e, add-one) (rw o at (l .inv .0)), (length-set (l .b) _ _ ∙ l .inv .1 .0, omega arith))
@@ -29,7 +29,7 @@ returns : tie.Need-returns Inv-loop μ-loop
 returns c =
     let s = c .before .before .args in
     let l = c .before .loop in
-    let n : length (s .t3) ≡ 16 = search needs in
+    let n : length (s .t3) ≡ queueCapacity = search needs in
     rw (closed (s .t3) (s .m) (l .j) blankWaiter (omega arith) (omega arith)) at (l .inv .0)
 
 pub lay-grants-spec : {M : Type 1} → statement M

@@ -1,4 +1,4 @@
-use Rattle.rules.proofs.Base.{ap, _∙_, arith, length, needs, packets, releaseStep, length-packets, removed-none}
+use Rattle.rules.proofs.Base.{ap, _∙_, arith, length, needs, packets, releaseStep, length-packets, removed-none, wireCapacity}
 use Rattle.rules.proofs.steps.plan_release.Statement.{statement}
 use Rattle.rules.proofs.steps.plan_release.Tie as tie
 
@@ -10,7 +10,7 @@ unfolding releaseStep
 returns c =
     let s = c .before .before .before .before .args .s in
     let h = c .before .before .before .before .pre .wire in
-    let g = removed-none (packets (s .wire)) 33 (omega (arith, length-packets (s .wire) h, h .short)) in
+    let g = removed-none (packets (s .wire)) wireCapacity (omega (arith, length-packets (s .wire) h, h .short)) in
     rw (c .before .release .ensures, c .before .before .site-of .ensures, c .before .before .before .machine-of .ensures, g) at (c .judge .ensures s (ap length g ∙ length-packets (s .wire) h))
 
 pub plan-release-spec : {M : Type 1} → statement M

@@ -46,9 +46,7 @@ returns-6 c =
     )
 
 pub read-record-spec : {M : Type 1} → statement M
-read-record-spec =
-    tie.close
-    (tie.spec
+read-record-spec = tie.close (tie.spec
     returns
     (λ c. search needs)
     returns-2

@@ -5,10 +5,10 @@ use Prim.Native.Nat.{_-_, _<_}
 use native.Mathlib.Omega.{arith}
 use lib.ListN.{length}
 use borrow.Author.Needs.{needs}
-use Rattle.model.specs.States.{freshLock, lockIn}
-use Rattle.laws.specs.Lists.{getD-any}
-use Rattle.laws.specs.Formed.{eight, lock-formed, ready}
+use Rattle.model.specs.States.{locks, lockIn}
+use Rattle.laws.specs.Formed.{lock-formed, ready}
 use Rattle.rules.specs.Plans.{plan-accepts, plan-refuses}
+use Rattle.engine.specs.Within.{lock-read}
 use Rattle.transcript.specs.Run.{Course, course-start, course-step, course-refused, course-skip, course-bad, course-end, record-ends}
 use Rattle.transcript.proofs.run.run_records.Statement.{statement}
 use Rattle.transcript.proofs.run.run_records.Tie as tie
@@ -26,16 +26,16 @@ plan-call-requires : tie.Need-plan-call-requires Inv-loop μ-loop
 plan-call-requires c κs =
     let l = c .before .before .before .before .before .before .before .before .before .loop in
     let k = c .before .before .before .before .lock-of .result in
-    let h : k .0 < 8 = omega (arith, c .before .before .if1 .taken) in
-    rw (getD-any (l .y .locks) (k .0) _ freshLock (omega (arith, eight (l .y) (l .inv .formed), h))) (lock-formed (l .y) k (l .inv .formed) h)
+    let h : k .0 < locks = omega (arith, c .before .before .if1 .taken) in
+    rw (lock-read (l .y) k _ (l .inv .formed) h) (lock-formed (l .y) k (l .inv .formed) h)
 
 carry-out-requires : tie.Need-carry-out-requires Inv-loop μ-loop
 carry-out-requires c κs =
     let l = c .before .before .before .before .before .before .before .before .before .before .before .before .loop in
     let k = c .before .before .before .before .before .before .before .lock-of .result in
-    let h : k .0 < 8 = omega (arith, c .before .before .before .before .before .if1 .taken) in
+    let h : k .0 < locks = omega (arith, c .before .before .before .before .before .if1 .taken) in
     let f = ready (lockIn (l .y) k) (lock-formed (l .y) k (l .inv .formed) h) .wire in
-    (rw (getD-any (l .y .locks) (k .0) _ freshLock (omega (arith, eight (l .y) (l .inv .formed), h))) f, c .before .before .plan-call .ensures .fits (c .enum-told .given .1))
+    (rw (lock-read (l .y) k _ (l .inv .formed) h) f, c .before .before .plan-call .ensures .fits (c .enum-told .given .1))
 
 add-n : tie.Need-add-n Inv-loop μ-loop
 add-n c = omega (arith, c .before .before .before .before .before .before .before .loop .inv .behind, c .before .before .before .before .before .before .before .loop .inv .inside, c .before .before .before .before .before .before .before .before .before .pre .1)
@@ -66,4 +66,4 @@ returns-2 : tie.Need-returns-2 Inv-loop μ-loop
 returns-2 c = c .ended2 .ensures ∙ course-end (c .before .before .before .before .loop .inv) (sym (c .before .before .before .read-at .ensures) ∙ c .before .enum-told4 .given .1)
 
 pub run-records-spec : {M : Type 1} → statement M
-run-records-spec = tie.close (tie.spec Inv-loop μ-loop loop-holds (λ c κs. search needs) (λ c. search needs) (λ c κs. search needs) (λ c. search needs) (λ c. search needs) (λ c. search needs) plan-call-requires (λ c. search needs) carry-out-requires (λ c. search needs) (λ c. search needs) (λ c. search needs) add-n loop-less loop-again (λ c. search needs) add-ended (λ c κs. search needs) returns (λ c. search needs) (λ c κs. search needs) returns-2)
+run-records-spec = tie.close (tie.spec Inv-loop μ-loop loop-holds (λ c κs. search needs) (λ c. search needs) (λ c κs. search needs) (λ c. search needs) (λ c. search needs) (λ c. search needs) (λ c. search needs) plan-call-requires (λ c. search needs) carry-out-requires (λ c. search needs) (λ c. search needs) (λ c. search needs) add-n loop-less loop-again (λ c. search needs) add-ended (λ c κs. search needs) returns (λ c. search needs) (λ c κs. search needs) returns-2)

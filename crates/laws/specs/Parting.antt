@@ -1,0 +1,58 @@
+-- Who leaves a queue when an agent is installed, and who stays in it.
+use mathlib.Core.Path.{_≡_, refl, _∙_}
+use mathlib.Core.Bool.{Bool, true, false}
+use mathlib.Core.List.{List, [], _∷_}
+use lib.ListN.{length, set, length-set}
+use Rattle.model.specs.States.{isShared}
+use Rattle.model.specs.AtMachine.{admitted, staying, joined, mayLeave}
+use Rattle.laws.specs.Names.{Mode, Exclusive, Shared, Waiter}
+use Rattle.laws.specs.Tests.{bool-cases, and-right}
+use Rattle.laws.specs.Lists.{Sublist, empty, kept, left-out}
+
+-- A queue parted in two, each in the queue's order: those who leave are shared.
+pub data Parting : List Waiter → List Waiter → List Waiter → Type 0 where
+  done : Parting [] [] []
+  first-leaves : {w : Waiter} {out stay ws : List Waiter} → isShared (w .mode) ≡ true → Parting out stay ws → Parting (w ∷ out) stay (w ∷ ws)
+  first-stays : {w : Waiter} {out stay ws : List Waiter} → Parting out stay ws → Parting out (w ∷ stay) (w ∷ ws)
+
+-- This is all that the theorems use of the rule: whoever changes it proves this anew.
+pub parting : (m : Mode) (ws : List Waiter) → Parting (admitted m ws) (staying m ws) ws
+unfolding admitted staying
+parting m [] = done
+parting m (w ∷ ws) = bool-cases (mayLeave m w) (λ e. rw e (first-leaves (and-right (isShared m) _ e) (parting m ws))) (λ e. rw e (first-stays (parting m ws)))
+
+-- with an exclusive agent nobody leaves
+pub none-leaves : (ws : List Waiter) → (admitted Exclusive ws ≡ []) × (staying Exclusive ws ≡ ws)
+unfolding admitted staying
+none-leaves [] = (refl, refl)
+none-leaves (w ∷ ws) = (none-leaves ws .0, rw (none-leaves ws .1))
+
+-- with a shared one, from the queue's head on
+pub none-queued : (admitted Shared [] ≡ []) × (staying Shared [] ≡ [])
+unfolding admitted staying
+none-queued = (refl, refl)
+
+pub shared-leaves : (w : Waiter) (ws : List Waiter) → isShared (w .mode) ≡ true
+    → (admitted Shared (w ∷ ws) ≡ w ∷ admitted Shared ws) × (staying Shared (w ∷ ws) ≡ staying Shared ws)
+unfolding admitted staying
+shared-leaves w ws e = (rw e, rw e)
+
+pub exclusive-stays : (w : Waiter) (ws : List Waiter) → isShared (w .mode) ≡ false
+    → (admitted Shared (w ∷ ws) ≡ admitted Shared ws) × (staying Shared (w ∷ ws) ≡ w ∷ staying Shared ws)
+unfolding admitted staying
+exclusive-stays w ws e = (rw e, rw e)
+
+pub admitted-sublist : {out stay ws : List Waiter} → Parting out stay ws → Sublist out ws
+admitted-sublist done = empty
+admitted-sublist (first-leaves e p) = kept (admitted-sublist p)
+admitted-sublist (first-stays p) = left-out (admitted-sublist p)
+
+pub staying-sublist : {out stay ws : List Waiter} → Parting out stay ws → Sublist stay ws
+staying-sublist done = empty
+staying-sublist (first-leaves e p) = left-out (staying-sublist p)
+staying-sublist (first-stays p) = kept (staying-sublist p)
+
+pub length-joined : (hs : List Bool) (ws : List Waiter) → length (joined hs ws) ≡ length hs
+unfolding joined
+length-joined hs [] = refl
+length-joined hs (w ∷ ws) = length-joined (set hs (w .client .0) true) ws ∙ length-set hs (w .client .0) true
