@@ -4,16 +4,21 @@ ghost use Prim.Native.Nat.{_+_, _*_, _%_};
 use model::Address;
 use model::Agent;
 use model::AgentSlot;
+use model::CLIENTS;
 use model::ClientState;
 use model::Cluster;
 use model::Decider;
+use model::LOCKS;
 use model::LockState;
+use model::MACHINES;
 use model::Message;
 use model::Mode;
 use model::Owner;
 use model::Packet;
+use model::QUEUE_CAPACITY;
 use model::Queue;
 use model::Status;
+use model::WIRE_CAPACITY;
 use model::Waiter;
 use model::Wire;
 
@@ -45,9 +50,9 @@ fn decider(h: u32, d: Decider) -> u32 {
     }
 }
 
-fn holders(h: u32, set: [bool; 16]) -> u32 {
+fn holders(h: u32, set: [bool; CLIENTS]) -> u32 {
     let mut h = h;
-    for i in 0..16 {
+    for i in 0..CLIENTS {
         h = flag(h, set[i]);
     }
     h
@@ -59,16 +64,16 @@ fn waiter(h: u32, w: Waiter) -> u32 {
     byte(byte(h, c.0), mode_number(m))
 }
 
-// The queue's length may be above 16 in a malformed cluster.
+// The queue's length may be above its capacity in a malformed cluster.
 fn queue(h: u32, q: Queue) -> u32 {
     let n = q.len;
     let slots = q.slots;
     waiters(byte(h, n), slots, n)
 }
 
-fn waiters(h: u32, slots: [Waiter; 16], n: u8) -> u32 {
+fn waiters(h: u32, slots: [Waiter; QUEUE_CAPACITY], n: u8) -> u32 {
     let mut h = h;
-    for i in 0..16 {
+    for i in 0..QUEUE_CAPACITY {
         if n as usize <= i {
             return h;
         }
@@ -98,9 +103,9 @@ fn agent_slot(h: u32, x: AgentSlot) -> u32 {
 }
 
 // Item 2.
-fn agents(h: u32, slots: [AgentSlot; 4]) -> u32 {
+fn agents(h: u32, slots: [AgentSlot; MACHINES]) -> u32 {
     let mut h = h;
-    for i in 0..4 {
+    for i in 0..MACHINES {
         h = agent_slot(h, slots[i]);
     }
     h
@@ -123,9 +128,9 @@ fn client(h: u32, c: ClientState) -> u32 {
 }
 
 // Item 3.
-fn clients(h: u32, states: [ClientState; 16]) -> u32 {
+fn clients(h: u32, states: [ClientState; CLIENTS]) -> u32 {
     let mut h = h;
-    for i in 0..16 {
+    for i in 0..CLIENTS {
         h = client(h, states[i]);
     }
     h
@@ -162,16 +167,16 @@ fn packet(h: u32, p: Packet) -> u32 {
     agent_slot(flag(address(message(h, m), a), p.rejected), x)
 }
 
-// Item 4. The wire's length may be above 33 in a malformed cluster.
+// Item 4. The wire's length may be above its capacity in a malformed cluster.
 fn wire(h: u32, w: Wire) -> u32 {
     let n = w.len;
     let slots = w.slots;
     packets(byte(h, n), slots, n)
 }
 
-fn packets(h: u32, slots: [Packet; 33], n: u8) -> u32 {
+fn packets(h: u32, slots: [Packet; WIRE_CAPACITY], n: u8) -> u32 {
     let mut h = h;
-    for i in 0..33 {
+    for i in 0..WIRE_CAPACITY {
         if n as usize <= i {
             return h;
         }
@@ -189,10 +194,10 @@ fn lock_state(h: u32, s: LockState) -> u32 {
     wire(clients(agents(decider(h, d), a), c), w)
 }
 
-// Lock 0 to lock 7.
+// Every lock, from 0 on.
 pub fn cluster(h: u32, x: Cluster) -> u32 {
     let mut h = h;
-    for i in 0..8 {
+    for i in 0..LOCKS {
         let s = x.locks[i];
         h = lock_state(h, s);
     }

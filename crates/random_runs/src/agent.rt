@@ -1,11 +1,14 @@
 // docs/random-runs.md, 'Hand-made states': the agent and the faults 1, 2, 3 and 9. As there, f is the fault at the slot, 0 where
 // there is none, v its number, and s the generator's state.
 ghost use Prim.Native.Nat.{_<_};
+ghost use Rattle.model.specs.States.{clients, queueCapacity};
 use crate::generator::draw;
 use model::Agent;
 use model::AgentSlot;
+use model::CLIENTS;
 use model::ClientId;
 use model::Mode;
+use model::QUEUE_CAPACITY;
 use model::Queue;
 use model::Waiter;
 use std::num::wrapping_add_u8;
@@ -41,9 +44,9 @@ fn holder_odds(i: u8) -> u8 {
     }
 }
 
-fn holders(s: &mut u32, odds: u8) -> [bool; 16] {
-    let mut set = [false; 16];
-    for i in 0..16 {
+fn holders(s: &mut u32, odds: u8) -> [bool; CLIENTS] {
+    let mut set = [false; CLIENTS];
+    for i in 0..CLIENTS {
         set[i] = draw(s, 16) < odds;
     }
     set
@@ -63,7 +66,7 @@ fn queue_length(i: u8) -> u8 {
 
 // Waiter i after the first, whose client is given.
 fn waiter(s: &mut u32, first: u8, i: u8) -> Waiter
-    requires { ⌜ (first < 16) × (i < 16) ⌝ }
+    requires { ⌜ (first < clients) × (i < queueCapacity) ⌝ }
 {
     let m = mode(s);
     Waiter {
@@ -72,13 +75,13 @@ fn waiter(s: &mut u32, first: u8, i: u8) -> Waiter
     }
 }
 
-// All sixteen waiters, of which the queue has the first.
-fn waiters(s: &mut u32) -> [Waiter; 16] {
+// A waiter for every slot, of which the queue has the first.
+fn waiters(s: &mut u32) -> [Waiter; QUEUE_CAPACITY] {
     let c = draw(s, 16);
     let blank = blank_waiter();
-    let mut slots = [blank; 16];
+    let mut slots = [blank; QUEUE_CAPACITY];
     let mut i: u8 = 0;
-    while i < 16 {
+    while i < QUEUE_CAPACITY as u8 {
         let w = waiter(s, c, i);
         slots[i as usize] = w;
         i += 1;
@@ -104,11 +107,11 @@ pub fn agent(s: &mut u32) -> Agent {
 }
 
 // The waiters from n on are blank.
-fn cut(slots: [Waiter; 16], n: u8) -> [Waiter; 16] {
+fn cut(slots: [Waiter; QUEUE_CAPACITY], n: u8) -> [Waiter; QUEUE_CAPACITY] {
     let blank = blank_waiter();
     let mut b = slots;
     let mut i = n;
-    while i < 16 {
+    while i < QUEUE_CAPACITY as u8 {
         b[i as usize] = blank;
         i += 1;
     }
@@ -127,7 +130,7 @@ fn with_client(w: Waiter, c: u8) -> Waiter {
 fn unknown_waiter(mut q: Queue, v: u8) -> Queue {
     let n = q.len;
     if 1 <= n {
-        if n <= 16 {
+        if n <= QUEUE_CAPACITY as u8 {
             let last = (n - 1) as usize;
             let w = q.slots[last];
             let x = with_client(w, wrapping_add_u8(16, v));
@@ -141,7 +144,7 @@ fn unknown_waiter(mut q: Queue, v: u8) -> Queue {
 fn double_waiter(mut q: Queue) -> Queue {
     let n = q.len;
     if 2 <= n {
-        if n <= 16 {
+        if n <= QUEUE_CAPACITY as u8 {
             let last = (n - 1) as usize;
             let first = q.slots[0];
             let c = first.client;
@@ -155,12 +158,12 @@ fn double_waiter(mut q: Queue) -> Queue {
 
 // Fault 9 where there is an agent: an unused waiter is not blank.
 fn stray_waiter(mut q: Queue) -> Queue {
-    if q.len < 16 {
+    if q.len < QUEUE_CAPACITY as u8 {
         let w = Waiter {
             client: ClientId(1),
             mode: Mode::Shared,
         };
-        q.slots[15] = w;
+        q.slots[QUEUE_CAPACITY - 1] = w;
     }
     q
 }
@@ -190,9 +193,9 @@ fn queue(q: Queue, f: u8, v: u8) -> Queue {
 
 pub fn no_agent() -> AgentSlot {
     let blank = blank_waiter();
-    let slots = [blank; 16];
+    let slots = [blank; QUEUE_CAPACITY];
     let queue = Queue { slots, len: 0 };
-    let holders = [false; 16];
+    let holders = [false; CLIENTS];
     let agent = Agent {
         mode: Mode::Exclusive,
         holders,

@@ -6,6 +6,8 @@ use crate::profile::delays;
 use model::Cluster;
 use model::LockState;
 use model::Status;
+use model::TASKS;
+use model::WIRE_CAPACITY;
 use model::Wire;
 
 // The kind is 1 acquire, 2 release or 3 deliver; the call takes of the arguments those it has.
@@ -54,12 +56,12 @@ fn release_or_deliver(pinned: bool, client: u8) -> u8 {
     }
 }
 
-// The index goes up past packets that the profile delays. No profile that delays meets a wire longer than its 33 slots.
+// The index goes up past packets that the profile delays. No profile that delays meets a wire longer than its slots.
 fn passed(p: Profile, w: Wire, first: u8) -> u8 {
     let n = w.len;
     let mut i = first;
     while i < n {
-        if 33 <= i {
+        if WIRE_CAPACITY as u8 <= i {
             return i;
         }
         let x = w.slots[i as usize];
@@ -88,7 +90,7 @@ fn mode_number(p: Profile, o: Outputs) -> u8 {
 fn ordinary(p: Profile, s: LockState, lock: u8, o: Outputs) -> Choice {
     let machine = (o.o4 % 4) as u8;
     let task = (o.o5 % 4) as u8;
-    let client = machine * 4 + task;
+    let client = machine * TASKS as u8 + task;
     let c = s.clients[client as usize];
     let status = c.status;
     let w = s.wire;

@@ -1,5 +1,6 @@
 // docs/random-runs.md, 'Hand-made states': the lock, with the faults 10 to 12, and the cluster.
 ghost use Prim.Native.Nat.{_≤_};
+ghost use Rattle.model.specs.States.{wireCapacity};
 use crate::agent::agent;
 use crate::agent::agent_slot;
 use crate::agent::incarnation;
@@ -9,19 +10,22 @@ use crate::fault::fault_at;
 use crate::generator::draw;
 use crate::packet::blank_packet;
 use crate::packet::packet;
-use model::Address;
+use crate::packet::plain;
 use model::AgentSlot;
+use model::CLIENTS;
 use model::ClientId;
 use model::ClientState;
 use model::Cluster;
 use model::Decider;
 use model::LockState;
+use model::MACHINES;
 use model::MachineId;
 use model::Message;
 use model::Mode;
 use model::Owner;
 use model::Packet;
 use model::Status;
+use model::WIRE_CAPACITY;
 use model::Wire;
 use std::num::wrapping_add_u8;
 
@@ -66,11 +70,11 @@ fn on_machine(s: &mut u32, o: Owner, k: u8, f: Fault) -> AgentSlot {
 }
 
 // Item 3 for all.
-fn agents(s: &mut u32, o: Owner, f: Fault) -> [AgentSlot; 4] {
+fn agents(s: &mut u32, o: Owner, f: Fault) -> [AgentSlot; MACHINES] {
     let none = no_agent();
-    let mut slots = [none; 4];
+    let mut slots = [none; MACHINES];
     let mut k: u8 = 0;
-    while k < 4 {
+    while k < MACHINES as u8 {
         let x = on_machine(s, o, k, f);
         slots[k as usize] = x;
         k += 1;
@@ -95,12 +99,12 @@ fn client(s: &mut u32) -> ClientState {
 }
 
 // Item 4 for all.
-fn clients(s: &mut u32) -> [ClientState; 16] {
+fn clients(s: &mut u32) -> [ClientState; CLIENTS] {
     let idle = ClientState {
         status: Status::Idle,
     };
-    let mut states = [idle; 16];
-    for i in 0..16 {
+    let mut states = [idle; CLIENTS];
+    for i in 0..CLIENTS {
         let x = client(s);
         states[i] = x;
     }
@@ -108,11 +112,11 @@ fn clients(s: &mut u32) -> [ClientState; 16] {
 }
 
 // Item 5: the wire's slots, with n packets.
-fn packets(s: &mut u32, n: u8, f: Fault) -> [Packet; 33]
-    requires { ⌜ n ≤ 33 ⌝ }
+fn packets(s: &mut u32, n: u8, f: Fault) -> [Packet; WIRE_CAPACITY]
+    requires { ⌜ n ≤ wireCapacity ⌝ }
 {
     let blank = blank_packet();
-    let mut slots = [blank; 33];
+    let mut slots = [blank; WIRE_CAPACITY];
     let mut i: u8 = 0;
     while i < n {
         let p = packet(s, fault_at(f, 4 + i), f.value);
@@ -123,27 +127,21 @@ fn packets(s: &mut u32, n: u8, f: Fault) -> [Packet; 33]
 }
 
 fn stray_packet() -> Packet {
-    let carried = no_agent();
-    Packet {
-        message: Message::Release {
-            client: ClientId(1),
-        },
-        to: Address::Decider,
-        rejected: false,
-        carried,
-    }
+    plain(Message::Release {
+        client: ClientId(1),
+    })
 }
 
 // The wire with the faults 11 and 12.
-fn wire(slots: [Packet; 33], n: u8, f: Fault) -> Wire {
+fn wire(slots: [Packet; WIRE_CAPACITY], n: u8, f: Fault) -> Wire {
     let mut w = Wire { slots, len: n };
     if f.kind == 11 {
         w.len = 34 + f.value % 222;
     }
     if f.kind == 12 {
-        if n < 33 {
+        if n < WIRE_CAPACITY as u8 {
             let p = stray_packet();
-            w.slots[32] = p;
+            w.slots[WIRE_CAPACITY - 1] = p;
         }
     }
     w
@@ -151,7 +149,7 @@ fn wire(slots: [Packet; 33], n: u8, f: Fault) -> Wire {
 
 // The page's table of lengths.
 fn wire_length(i: u8) -> u8
-    ensures { λ r. ⌜ r ≤ 33 ⌝ }
+    ensures { λ r. ⌜ r ≤ wireCapacity ⌝ }
 {
     match i {
         0 | 1 => 0,
@@ -169,7 +167,7 @@ fn wire_length(i: u8) -> u8
 
 // Fault 11 wants all 33 slots drawn.
 fn packet_count(kind: u8, i: u8) -> u8
-    ensures { λ r. ⌜ r ≤ 33 ⌝ }
+    ensures { λ r. ⌜ r ≤ wireCapacity ⌝ }
 {
     if kind == 11 { 33 } else { wire_length(i) }
 }

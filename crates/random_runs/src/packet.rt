@@ -6,6 +6,7 @@ use crate::agent::mode;
 use crate::agent::no_agent;
 use crate::generator::draw;
 use model::Address;
+use model::AgentSlot;
 use model::ClientId;
 use model::MachineId;
 use model::Message;
@@ -13,14 +14,22 @@ use model::Mode;
 use model::Packet;
 use std::num::wrapping_add_u8;
 
-pub fn blank_packet() -> Packet {
-    let carried = no_agent();
+fn made(message: Message, to: Address, rejected: bool, carried: AgentSlot) -> Packet {
     Packet {
-        message: Message::Free,
-        to: Address::Decider,
-        rejected: false,
+        message,
+        to,
+        rejected,
         carried,
     }
+}
+
+// To the decider, and without agent.
+pub fn plain(message: Message) -> Packet {
+    made(message, Address::Decider, false, no_agent())
+}
+
+pub fn blank_packet() -> Packet {
+    plain(Message::Free)
 }
 
 // The drawn kind: 0 to 2 ACQUIRE, 3 to 5 GRANT, 6 RELEASE, 7 FREE.
@@ -93,12 +102,7 @@ pub fn packet(s: &mut u32, f: u8, v: u8) -> Packet {
     let message = message(kind, named(c, f, v), m, granted);
     let to = address(to_machine(kind, rejected, a), a, f, v);
     let carried = agent_slot(flipped(carrying, f == 7), agent, f, v);
-    Packet {
-        message,
-        to,
-        rejected: flipped(rejected, f == 6),
-        carried,
-    }
+    made(message, to, flipped(rejected, f == 6), carried)
 }
 
 fn flipped(x: bool, flip: bool) -> bool {

@@ -1,13 +1,16 @@
 // Waiters, agents and packets of hand-made states. Modes and clients are given by document 01's numbers.
 ghost use Prim.Native.Nat.{_<_};
+ghost use Rattle.model.specs.States.{clients};
 use model::Address;
 use model::Agent;
 use model::AgentSlot;
+use model::CLIENTS;
 use model::ClientId;
 use model::MachineId;
 use model::Message;
 use model::Mode;
 use model::Packet;
+use model::QUEUE_CAPACITY;
 use model::Queue;
 use model::Waiter;
 
@@ -29,7 +32,7 @@ pub fn waiter(c: u8, m: u8) -> Waiter {
 
 pub fn empty_queue() -> Queue {
     let blank = waiter(0, 2);
-    let slots = [blank; 16];
+    let slots = [blank; QUEUE_CAPACITY];
     Queue { slots, len: 0 }
 }
 
@@ -49,35 +52,43 @@ pub fn two_waiters(c: u8, d: u8) -> Queue {
     q
 }
 
-// All sixteen clients, in the order of their numbers, in one mode.
-pub fn sixteen(m: u8) -> Queue {
+// The queue's last slot has the waiter.
+pub fn last_waiter(mut q: Queue, c: u8, m: u8) -> Queue {
+    let w = waiter(c, m);
+    q.slots[QUEUE_CAPACITY - 1] = w;
+    q
+}
+
+// All clients, in the order of their numbers, in one mode.
+pub fn every_client(m: u8) -> Queue {
     let blank = waiter(0, 2);
-    let mut slots = [blank; 16];
+    let mut slots = [blank; QUEUE_CAPACITY];
     let mut i: u8 = 0;
-    while i < 16 {
+    while i < CLIENTS as u8 {
         let w = waiter(i, m);
         slots[i as usize] = w;
         i += 1;
     }
-    Queue { slots, len: 16 }
+    Queue {
+        slots,
+        len: CLIENTS as u8,
+    }
 }
 
 pub fn full_queue() -> Queue {
-    sixteen(3)
+    every_client(3)
 }
 
-// All but client 15.
-pub fn fifteen_waiters() -> Queue {
-    let mut q = full_queue();
-    let blank = waiter(0, 2);
-    q.slots[15] = blank;
-    q.len = 15;
+// All but the last client.
+pub fn all_but_last() -> Queue {
+    let mut q = last_waiter(full_queue(), 0, 2);
+    q.len = QUEUE_CAPACITY as u8 - 1;
     q
 }
 
 pub fn agent(m: u8, queue: Queue) -> Agent {
     let mode = mode(m);
-    let holders = [false; 16];
+    let holders = [false; CLIENTS];
     Agent {
         mode,
         holders,
@@ -92,7 +103,7 @@ pub fn new_agent(m: u8) -> Agent {
 }
 
 pub fn held_by(mut a: Agent, c: u8) -> Agent
-    requires { ⌜ c < 16 ⌝ }
+    requires { ⌜ c < clients ⌝ }
 {
     a.holders[c as usize] = true;
     a

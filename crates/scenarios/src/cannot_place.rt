@@ -116,7 +116,7 @@ fn queued() {
     joining(
         b"ACQUIRE at a queue of 16",
         15,
-        build::fifteen_waiters(),
+        build::all_but_last(),
         build::full_queue(),
     );
     compare(
@@ -126,7 +126,7 @@ fn queued() {
     );
     compare(
         b"rejected GRANT with a queue of 16",
-        going_back(15, build::fifteen_waiters()),
+        going_back(15, build::all_but_last()),
         going_back(15, build::full_queue()),
     );
 }
@@ -161,6 +161,6 @@ pub fn run() {
     queued();
     local_acquire();
     heading(b"acquire at a queue of 16");
-    last_in(build::fifteen_waiters());
+    last_in(build::all_but_last());
     last_in(build::full_queue());
 }

@@ -3,10 +3,12 @@ use crate::call;
 use crate::drains;
 use crate::print;
 use crate::show;
+use model::CLIENTS;
 use model::Cluster;
 use model::LockId;
 use model::MachineId;
 use model::Outcome;
+use model::TASKS;
 use model::TaskId;
 
 // 0/0 was granted and has released on its own machine: its agent is inside the FREE at index 0.
@@ -43,8 +45,8 @@ fn visit(x: Cluster, k: u8, t: u8) -> Cluster {
 fn visit_all(x: Cluster) -> Cluster {
     let mut y = x;
     let mut c: u8 = 0;
-    while c < 16 {
-        y = visit(y, c / 4, c % 4);
+    while c < CLIENTS as u8 {
+        y = visit(y, c / TASKS as u8, c % TASKS as u8);
         c += 1;
     }
     y

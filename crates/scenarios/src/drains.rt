@@ -62,14 +62,15 @@ fn refused() {
         b"two packets for one on a full wire",
         state::with_wire(state::owned(3, 0), wire),
     );
-    let mut long = state::full_wire();
-    long.len = 34;
-    drained(b"a wire of 34", state::with_wire(state::free(), long));
+    drained(
+        b"a wire of 34",
+        state::with_wire(state::free(), state::longer_wire()),
+    );
 }
 
 // The most hand-overs from releasing to delivering that a state made by hand is known to have: one for each writer, and one at the end.
 fn writers() {
-    let a = build::held_by(build::agent(2, build::sixteen(2)), 0);
+    let a = build::held_by(build::agent(2, build::every_client(2)), 0);
     let s = state::with_slot(state::owned(2, 0), 0, build::present(a));
     drained(b"a queue of 16 writers", state::with_holder(s, 0));
 }

@@ -6,7 +6,9 @@ use crate::call::deliver;
 use crate::call::release;
 use crate::print::heading;
 use crate::state::full_wire;
+use crate::state::longer_wire;
 use crate::state::owned;
+use crate::state::with_last;
 use crate::state::with_packet;
 use crate::state::with_slot;
 use crate::state::with_wire;
@@ -14,8 +16,8 @@ use model::Address;
 use model::LockState;
 use model::Message;
 use model::Packet;
+use model::QUEUE_CAPACITY;
 use model::Queue;
-use model::Wire;
 
 pub fn sent(p: Packet) -> LockState {
     with_packet(owned(3, 0), p)
@@ -82,16 +84,13 @@ pub fn in_both(heading: &[u8], within: Queue, outside: Queue) {
 
 fn longer_queue() -> Queue {
     let mut q = build::full_queue();
-    q.len = 17;
+    q.len = QUEUE_CAPACITY as u8 + 1;
     q
 }
 
-// The last of sixteen waiters is the first.
+// The last waiter of a full queue is the first.
 fn repeated_waiter() -> Queue {
-    let mut q = build::full_queue();
-    let w = build::waiter(0, 3);
-    q.slots[15] = w;
-    q
+    build::last_waiter(build::full_queue(), 0, 3)
 }
 
 fn queues() {
@@ -113,18 +112,10 @@ fn queues() {
     );
 }
 
-fn longer_wire() -> Wire {
-    let mut w = full_wire();
-    w.len = 34;
-    w
-}
-
-// The last of 33 packets is a RELEASE of the client.
+// The last packet of a full wire is a RELEASE of the client.
 fn last_packet(c: u8) -> LockState {
-    let mut w = full_wire();
     let p = build::plain(build::release(c), Address::Decider);
-    w.slots[32] = p;
-    with_wire(owned(3, 0), w)
+    with_wire(owned(3, 0), with_last(full_wire(), p))
 }
 
 fn wires() {

@@ -13,6 +13,7 @@ use crate::state::with_slot;
 use crate::state::with_wire;
 use model::Address;
 use model::Cluster;
+use model::WIRE_CAPACITY;
 
 // Every other cause beside 11, then one less each time.
 fn ranges(malformed: Cluster, x: Cluster) {
@@ -52,7 +53,7 @@ fn on_full_wire() {
     let x = cluster(with_wire(owned(3, 0), full_wire()));
     acquire(x, 0, 3, 3, 3);
     release(x, 0, 3, 3);
-    deliver(x, 0, 33);
+    deliver(x, 0, WIRE_CAPACITY as u8);
 }
 
 // An agent with two shared waiters comes on a full wire, to a machine that has one: 9 before 10.

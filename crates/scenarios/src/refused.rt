@@ -7,6 +7,7 @@ use crate::print::heading;
 use crate::state::cluster;
 use crate::state::full_wire;
 use crate::state::owned;
+use crate::state::with_last;
 use crate::state::with_packet;
 use crate::state::with_wire;
 use model::Address;
@@ -88,10 +89,9 @@ fn each_kind() {
     named_by(build::plain(build::release(4), Address::Decider));
     let a = build::agent(3, build::one_waiter(4));
     named_by(build::carrying(Message::Free, Address::Decider, a));
-    let mut w = full_wire();
     let p = build::plain(build::release(4), Address::Decider);
-    w.slots[32] = p;
-    acquire(cluster(with_wire(owned(3, 0), w)), 0, 1, 0, 3);
+    let s = with_wire(owned(3, 0), with_last(full_wire(), p));
+    acquire(cluster(s), 0, 1, 0, 3);
 }
 
 pub fn run() {

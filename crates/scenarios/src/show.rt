@@ -1,14 +1,18 @@
 // What lock 0 has, a line for each thing asked.
 ghost use Prim.Native.Nat.{_<_};
+ghost use Rattle.model.specs.States.{machines, clients};
 use crate::print::client;
 use crate::print::number;
 use crate::print::text;
 use model::Agent;
+use model::CLIENTS;
 use model::Cluster;
 use model::Mode;
 use model::Owner;
+use model::QUEUE_CAPACITY;
 use model::Queue;
 use model::Status;
+use model::TASKS;
 use model::Waiter;
 
 fn mode(m: Mode) {
@@ -19,7 +23,7 @@ fn mode(m: Mode) {
 }
 
 fn client_numbered(c: u8) {
-    client(c / 4, c % 4);
+    client(c / TASKS as u8, c % TASKS as u8);
 }
 
 pub fn wire_length(x: Cluster) -> u8 {
@@ -72,7 +76,7 @@ fn status_words(s: Status) {
 }
 
 pub fn status(x: Cluster, c: u8)
-    requires { ⌜ c < 16 ⌝ }
+    requires { ⌜ c < clients ⌝ }
 {
     let s = x.locks[0];
     let y = s.clients[c as usize];
@@ -82,8 +86,8 @@ pub fn status(x: Cluster, c: u8)
     text(b"\n");
 }
 
-fn listed(set: [bool; 16], c: u8)
-    requires { ⌜ c < 16 ⌝ }
+fn listed(set: [bool; CLIENTS], c: u8)
+    requires { ⌜ c < clients ⌝ }
 {
     if set[c as usize] {
         text(b" ");
@@ -91,9 +95,9 @@ fn listed(set: [bool; 16], c: u8)
     }
 }
 
-fn holders(set: [bool; 16]) {
+fn holders(set: [bool; CLIENTS]) {
     let mut c: u8 = 0;
-    while c < 16 {
+    while c < CLIENTS as u8 {
         listed(set, c);
         c += 1;
     }
@@ -108,8 +112,8 @@ fn waiter(w: Waiter) {
     mode(m);
 }
 
-fn waiters(slots: [Waiter; 16], n: u8) {
-    for i in 0..16 {
+fn waiters(slots: [Waiter; QUEUE_CAPACITY], n: u8) {
+    for i in 0..QUEUE_CAPACITY {
         if n as usize <= i {
             return;
         }
@@ -139,7 +143,7 @@ fn agent(a: Agent) {
 
 // The agent of the machine, or none.
 fn machine(x: Cluster, k: u8)
-    requires { ⌜ k < 4 ⌝ }
+    requires { ⌜ k < machines ⌝ }
 {
     let s = x.locks[0];
     let slot = s.agents[k as usize];

@@ -1,5 +1,6 @@
 // Hand-made states of a lock.
 ghost use Prim.Native.Nat.{_<_};
+ghost use Rattle.model.specs.States.{machines, clients};
 use crate::build;
 use model::Address;
 use model::AgentSlot;
@@ -12,6 +13,7 @@ use model::Message;
 use model::Owner;
 use model::Packet;
 use model::Status;
+use model::WIRE_CAPACITY;
 use model::Wire;
 
 pub fn free() -> LockState {
@@ -33,7 +35,7 @@ pub fn owned(m: u8, k: u8) -> LockState {
 }
 
 pub fn with_slot(mut s: LockState, k: u8, a: AgentSlot) -> LockState
-    requires { ⌜ k < 4 ⌝ }
+    requires { ⌜ k < machines ⌝ }
 {
     s.agents[k as usize] = a;
     s
@@ -41,7 +43,7 @@ pub fn with_slot(mut s: LockState, k: u8, a: AgentSlot) -> LockState
 
 // The client holds the lock shared.
 pub fn with_holder(mut s: LockState, c: u8) -> LockState
-    requires { ⌜ c < 16 ⌝ }
+    requires { ⌜ c < clients ⌝ }
 {
     let mode = build::mode(3);
     let status = Status::Holding(mode);
@@ -63,25 +65,40 @@ pub fn with_packet(s: LockState, p: Packet) -> LockState {
     with_wire(s, w)
 }
 
-// 33 GRANTs for 3/3 under way to its machine.
+// Every packet is a GRANT for 3/3 under way to its machine.
 pub fn full_wire() -> Wire {
     let p = build::plain(build::grant(15, 3), build::machine(3));
-    let slots = [p; 33];
-    Wire { slots, len: 33 }
+    let slots = [p; WIRE_CAPACITY];
+    Wire {
+        slots,
+        len: WIRE_CAPACITY as u8,
+    }
 }
 
-// 32 of them.
+// One packet fewer.
 pub fn room_for_one() -> Wire {
-    let mut w = full_wire();
     let blank = build::plain(Message::Free, Address::Decider);
-    w.slots[32] = blank;
-    w.len = 32;
+    let mut w = with_last(full_wire(), blank);
+    w.len = WIRE_CAPACITY as u8 - 1;
+    w
+}
+
+// A length past the slots.
+pub fn longer_wire() -> Wire {
+    let mut w = full_wire();
+    w.len = WIRE_CAPACITY as u8 + 1;
     w
 }
 
 // The wire's packet at index 0 is this one.
 pub fn with_first(mut w: Wire, p: Packet) -> Wire {
     w.slots[0] = p;
+    w
+}
+
+// The wire's last slot has the packet.
+pub fn with_last(mut w: Wire, p: Packet) -> Wire {
+    w.slots[WIRE_CAPACITY - 1] = p;
     w
 }
 

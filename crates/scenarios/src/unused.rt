@@ -1,9 +1,11 @@
 // Refusal 11: what is unused is not blank. A queue's slots and a wire's past the length, and the agent that is not there.
 use crate::build;
+use crate::build::last_waiter;
 use crate::call::compare;
 use crate::malformed::in_both;
 use crate::malformed::sent;
 use crate::state::owned;
+use crate::state::with_last;
 use crate::state::with_slot;
 use crate::state::with_wire;
 use model::Address;
@@ -13,13 +15,6 @@ use model::LockState;
 use model::Message;
 use model::Packet;
 use model::Queue;
-
-// The queue's last slot has the waiter.
-fn last_waiter(mut q: Queue, c: u8, m: u8) -> Queue {
-    let w = build::waiter(c, m);
-    q.slots[15] = w;
-    q
-}
 
 fn waiters() {
     let none = build::empty_queue();
@@ -31,9 +26,7 @@ fn waiters() {
 // The last slot of a wire that has one packet.
 fn last_packet(heading: &[u8], p: Packet) {
     let s = sent(build::plain(build::acquire(0, 3), Address::Decider));
-    let mut w = s.wire;
-    w.slots[32] = p;
-    compare(heading, s, with_wire(s, w));
+    compare(heading, s, with_wire(s, with_last(s.wire, p)));
 }
 
 fn absent(agent: Agent) -> AgentSlot {

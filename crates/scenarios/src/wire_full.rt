@@ -1,4 +1,4 @@
-// Refusal 10: each call on a wire of 32 and on one of 33 packets.
+// Refusal 10: each call on a wire with room for one packet and on a full one.
 use crate::build;
 use crate::call::acquire;
 use crate::call::deliver;
@@ -16,6 +16,7 @@ use model::Address;
 use model::Agent;
 use model::LockState;
 use model::Packet;
+use model::WIRE_CAPACITY;
 
 // With an agent on its machine the client sends no packet.
 fn acquires() {
@@ -79,12 +80,12 @@ fn deliveries() {
     agent_arrives(2);
 }
 
-// Indices 32 and 33 of a full wire.
+// The last index of a full wire, and the next.
 fn last_index() {
     heading(b"last index of a full wire");
     let x = cluster(with_wire(owned(3, 1), full_wire()));
-    deliver(x, 0, 32);
-    deliver(x, 0, 33);
+    deliver(x, 0, WIRE_CAPACITY as u8 - 1);
+    deliver(x, 0, WIRE_CAPACITY as u8);
 }
 
 pub fn run() {

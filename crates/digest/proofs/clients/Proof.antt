@@ -1,5 +1,6 @@
 use Prim.Native.Nat.{_-_}
 use borrow.Author.Needs.{needs}
+use Rattle.model.specs.States.{clients}
 use Rattle.digest.proofs.clients.Statement.{statement}
 use Rattle.digest.proofs.clients.Tie as tie
 
@@ -7,7 +8,7 @@ abbrev Inv-loop : tie.InvT-loop
 Inv-loop h states h₀ i₀ h' i = Unit
 
 abbrev μ-loop : tie.MeasureT-loop
-μ-loop h states h₀ i₀ h' i = 16 - i
+μ-loop h states h₀ i₀ h' i = clients - i
 
 pub clients-spec : {M : Type 1} → statement M
 clients-spec = tie.close (tie.spec Inv-loop μ-loop (λ c. search needs) (λ c. search needs) (λ c. search needs) (λ c κs. search needs) (λ c. search needs) (λ c. search needs) (λ c. search needs) (λ c. search needs))
