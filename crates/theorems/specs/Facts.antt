@@ -1,5 +1,5 @@
 -- What the invariant gives: of packets, of agents, of counts.
-use Rattle.theorems.specs.Names.{MachineId, ClientId, Mode, Exclusive, Shared, Owner, Unowned, Owned, Waiter, Agent, AgentSlot, Address, Message, Free, Acquire, Grant, Release, Packet, Status, Idle, Waiting, Holding, LockState, _≡_, refl, sym, ap, _∙_, Bool, true, false, _&&_, not, and-false, false≢true, List, [], _∷_, ℕ, _+_, _*_, _≤_, _<_, arith, ℕ-discrete, length, getD, set, length-set, List·getD-eq-default, getD-set-same, getD-set-other, eqb, ltb, eqb-true, eq-eqb, ne-eqb, ltb-true, ltb-false, lt-ltb, leb-true, le-leb, seated, idle, noAgent, packets, changed, and-left, and-right, bool-cases, machines, clients, wireCapacity, machineOf, ownedShared, true≢false, isShared}
+use Rattle.theorems.specs.Names.{MachineId, ClientId, Mode, Exclusive, Shared, Owner, Unowned, Owned, Waiter, Agent, AgentSlot, Address, Message, Free, Acquire, Grant, Release, Packet, Status, Idle, Waiting, Holding, LockState, _≡_, refl, sym, ap, _∙_, Bool, true, false, _&&_, not, and-false, false≢true, List, [], _∷_, ℕ, _+_, _*_, _≤_, _<_, arith, ℕ-discrete, length, getD, set, length-set, List·getD-eq-default, getD-set-same, getD-set-other, eqb, ltb, eqb-true, eq-eqb, ne-eqb, ltb-true, ltb-false, lt-ltb, leb-true, le-leb, seated, idle, noAgent, packets, changed, and-left, and-right, bool-cases, machines, clients, wireCapacity, machineOf, ownedShared, true≢false, isShared, isFree}
 use Rattle.theorems.specs.Tally.{flag, tally, tally-set, tally-at, tally-le, tally-none, tally-add, tally-length, sumTo, sum-swap, sum-le, sum-ext, sum-one}
 use Rattle.theorems.specs.Weights.{statusAt, slotAt, weight, sameMode, one, hit, hitW, askM, queuedS, waitingP, markM, listedS, listedP, owedM, owedP, releaseM, releaseP, agentS, agentP, incarnationS, incarnationP, markAll, markP, rejectedP, heads, vacantS, waitF, holdF, idleF, ownedF, clash, farM, farF, ownedMode, ownedAt, few, fitsHome, misfitS, fitsAway, inRange, fits, fitsP, misfitP}
 use Rattle.theorems.specs.Invariant.{Inv}
@@ -13,6 +13,10 @@ fit false e = absurd (omega arith)
 pub flag-none : (b : Bool) → flag b ≡ 0 → b ≡ false
 flag-none true e = absurd (omega arith)
 flag-none false e = refl
+
+pub flag-le : (b : Bool) → flag b ≤ 1
+flag-le true = omega arith
+flag-le false = omega arith
 
 -- ---- a slot without an agent counts nothing
 pub record Zero (s : AgentSlot) : Type 0 where
@@ -226,11 +230,8 @@ shared-owner (Owned Shared k) e = refl
 abbrev pub namesM : ℕ → Message → ℕ
 namesM d m = askM d Exclusive m + askM d Shared m + markM d m + releaseM d m
 
-unfoldable pub isFree : Message → ℕ
-isFree (Acquire c n g) = 0
-isFree (Grant c n) = 0
-isFree (Release c) = 0
-isFree Free = 1
+unfoldable freeM : Message → ℕ
+freeM m = flag (isFree m)
 
 pub hits : (d : ℕ) (c : ClientId) (n : Mode) → hit d Exclusive c n + hit d Shared c n ≡ one d c
 unfolding hit one
@@ -238,8 +239,8 @@ hits d c Exclusive = omega arith
 hits d c Shared = omega arith
 
 -- the message names one client below clients, or is FREE
-names-sum : (m : Message) → inRange m ≡ true → isFree m + sumTo clients (λ d. namesM d m) ≡ 1
-unfolding askM markM releaseM isFree one
+names-sum : (m : Message) → inRange m ≡ true → freeM m + sumTo clients (λ d. namesM d m) ≡ 1
+unfolding askM markM releaseM freeM one
 names-sum (Acquire c n false) e =
     omega (arith, sum-ext clients (λ d. namesM d (Acquire c n false)) (λ d. one d c) (λ d. omega (arith, hits d c n)), sum-one clients (c .0) (ltb-true (c .0) clients e))
 names-sum (Acquire c n true) e = omega (arith, sum-ext clients (λ d. namesM d (Acquire c n true)) (λ d. one d c) (λ d. omega arith), sum-one clients (c .0) (ltb-true (c .0) clients e))
@@ -248,30 +249,23 @@ names-sum (Release c) e = omega (arith, sum-ext clients (λ d. namesM d (Release
 names-sum Free e = omega (arith, sum-le clients 0 (λ d. namesM d Free) (λ d. omega arith))
 
 -- a packet is a misfit, or carries an agent and is a FREE, or names one client
-counts-one : (o : Owner) (p : Packet) → 1 ≤ misfitP o p + isFree (p .message) + sumTo clients (λ d. namesM d (p .message))
+counts-one : (o : Owner) (p : Packet) → 1 ≤ misfitP o p + freeM (p .message) + sumTo clients (λ d. namesM d (p .message))
 unfolding misfitP
 counts-one o p =
     bool-cases (fitsP o p)
     (λ q. omega (arith, names-sum (p .message) (named-of _ _ _ _ _ (p .message) q)))
     (λ q. let e : misfitP o p ≡ 1 = rw q in omega arith)
 
-free-one : (m : Message) → isFree m ≤ 1
-unfolding isFree
-free-one (Acquire c n g) = omega arith
-free-one (Grant c n) = omega arith
-free-one (Release c) = omega arith
-free-one Free = omega arith
-
-free-fits : (o : Owner) (x : Bool) (t : Address) (b : Bool) (a : Agent) (m : Message) → isFree m ≤ flag (not (fits o x t b a m)) + flag x
-unfolding isFree fits
-free-fits o true t b a m = omega (arith, free-one m)
+free-fits : (o : Owner) (x : Bool) (t : Address) (b : Bool) (a : Agent) (m : Message) → freeM m ≤ flag (not (fits o x t b a m)) + flag x
+unfolding freeM fits
+free-fits o true t b a m = omega (arith, flag-le (isFree m))
 free-fits o false t b a (Acquire c n g) = omega arith
 free-fits o false t b a (Grant c n) = omega arith
 free-fits o false t b a (Release c) = omega arith
 free-fits o false t true a Free = omega arith
 free-fits o false t false a Free = omega arith
 
-free-carries : (o : Owner) (p : Packet) → isFree (p .message) ≤ misfitP o p + agentP p
+free-carries : (o : Owner) (p : Packet) → freeM (p .message) ≤ misfitP o p + agentP p
 unfolding misfitP agentS
 free-carries o p = free-fits o (p .carried .present) (p .to) (p .rejected) (p .carried .agent) (p .message)
 
@@ -339,7 +333,7 @@ module _ (r : LockState) (i : Inv r) where
         tally-add (λ p. askM d Exclusive (p .message)) (λ p. askM d Shared (p .message)) ps,
       )
 
-  frees : tally (λ p. isFree (p .message)) ps ≤ 1
+  frees : tally (λ p. freeM (p .message)) ps ≤ 1
   unfolding weight
   frees =
       omega
@@ -353,8 +347,8 @@ module _ (r : LockState) (i : Inv r) where
         frees,
         i .fitting,
         tally-le (λ p. 1) _ (counts-one (r .decider .owner)) ps,
-        tally-add (λ p. misfitP (r .decider .owner) p + isFree (p .message)) (λ p. sumTo clients (λ d. namesM d (p .message))) ps,
-        tally-add (misfitP (r .decider .owner)) (λ p. isFree (p .message)) ps,
+        tally-add (λ p. misfitP (r .decider .owner) p + freeM (p .message)) (λ p. sumTo clients (λ d. namesM d (p .message))) ps,
+        tally-add (misfitP (r .decider .owner)) (λ p. freeM (p .message)) ps,
         sum-swap clients (λ d p. namesM d (p .message)) ps,
         sum-le clients 2 (λ d. tally (λ p. namesM d (p .message)) ps) named-below,
       )
@@ -547,10 +541,6 @@ joins-heads hs c h z = omega (arith, z, tally-set flag false hs c true h, tally-
 pub few-zero : (m : Mode) → few m 0 ≡ true
 few-zero Exclusive = refl
 few-zero Shared = refl
-
-pub flag-le : (b : Bool) → flag b ≤ 1
-flag-le true = omega arith
-flag-le false = omega arith
 
 pub drop-last : (a b c d : Bool) → (a && (b && (c && d))) ≡ true → (a && (b && c)) ≡ true
 drop-last true true true d e = refl

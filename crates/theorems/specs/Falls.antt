@@ -1,6 +1,6 @@
 -- Each step of a drain lowers the rank: the delivery of the first packet lowers the work, or sends the packet on with fewer hops; a release lowers
 -- the work. Every rule is looked at in its own clauses; the invariant is not needed for that.
-use Rattle.theorems.specs.Names.{MachineId, ClientId, Mode, Shared, Owner, Unowned, Owned, Waiter, Agent, AgentSlot, Address, ToDecider, ToMachine, Message, Free, Acquire, Grant, Release, Packet, Idle, Holding, LockState, _≡_, refl, ap, _∙_, Bool, true, false, true≢false, false≢true, List, [], _∷_, _++_, map, ℕ, _+_, _*_, _≤_, _<_, arith, length, getD, set, length-append, List·getD-eq-default, set-getD, ltb, eqb-true, eq-eqb, ltb-true, ltb-false, pick, removed, machineOf, isShared, newAgent, seated, agentOn, listed, statusOf, plain, waiters, noAgent, packets, Site, siteOf, withSlot, withStatus, cannot-place, does, apply, queuing, noRoom, withRoom, mayJoin, anyHolder, without, lists, handOver, staysIf, leaves, releases, current, toOwner, decidesAcquire, decidesFree, decidesGrant, decides, atDecider, sendsBack, grantOf, installed, requeued, admitted, staying, joined, installs, granted, marked, unmarked, acquired, released, returned, arrives, atMachine, machineAt, clientNamed, delivers, releaseStep, takes, deliverStep, and-left, and-right, bool-cases, packets-of, waiters-of, clients, idle, mayShare, slotIn, inParts, passesOn, unowned, withDecider, rejects, shares}
+use Rattle.theorems.specs.Names.{MachineId, ClientId, Mode, Shared, Owner, Unowned, Owned, Waiter, Agent, AgentSlot, Address, ToDecider, ToMachine, Message, Free, Acquire, Grant, Release, Packet, Idle, Holding, LockState, _≡_, refl, ap, _∙_, Bool, true, false, true≢false, false≢true, List, [], _∷_, _++_, map, ℕ, _+_, _*_, _≤_, _<_, arith, length, getD, set, length-append, List·getD-eq-default, set-getD, ltb, eqb-true, eq-eqb, ltb-true, ltb-false, pick, removed, machineOf, isShared, newAgent, seated, agentOn, listed, statusOf, plain, waiters, noAgent, packets, Site, siteOf, withSlot, withStatus, cannot-place, does, apply, queuing, noRoom, withRoom, mayJoin, anyHolder, without, lists, handOver, staysIf, leaves, releases, current, toOwner, decidesAcquire, decidesFree, decidesGrant, decides, atDecider, sendsBack, grantOf, installed, requeued, admitted, staying, joined, installs, granted, marked, unmarked, acquired, released, returned, arrives, atMachine, machineAt, clientNamed, delivers, releaseStep, takes, deliverStep, and-left, and-right, bool-cases, packets-of, waiters-of, clients, idle, mayShare, slotIn, inParts, passesOn, unowned, withDecider, rejects, shares, resent}
 use Rattle.theorems.specs.Tally.{flag, tally, tally-one, tally-set, tally-length}
 use Rattle.theorems.specs.Weights.{statusAt, slotAt, heads, holdF, ownedAt}
 use Rattle.theorems.specs.Invariant.{Inv}
@@ -227,8 +227,8 @@ module _ (r : LockState) (rest : List Packet) where
     moves-arrives (Release c) b x sp = moves-released (agentOn r k) c b x refl sp
     moves-arrives Free b x sp = moves-returned (agentOn r k .present) (agentOn r k .agent) _ b x refl sp
 
-  moves-delivers : (p : Packet) (t : Address) → Split r (inParts (p .message) t (p .rejected) (p .carried .present) p ∷ []) rest
-      → Says (Moves r (machineAt t) (clientNamed (p .message)) (inParts (p .message) t (p .rejected) (p .carried .present) p) rest) (verdict r (inParts (p .message) t (p .rejected) (p .carried .present) p))
+  moves-delivers : (p : Packet) (t : Address) → Split r (resent p t (p .rejected) ∷ []) rest
+      → Says (Moves r (machineAt t) (clientNamed (p .message)) (resent p t (p .rejected)) rest) (verdict r (resent p t (p .rejected)))
   unfolding delivers atDecider atMachine
   moves-delivers p ToDecider sp = moves-decides _ (clientNamed (p .message)) p (p .message) (r .decider .owner) (p .carried .present) refl sp
   moves-delivers p (ToMachine k) sp = moves-arrives k p (p .message) (p .rejected) (p .carried .present) sp

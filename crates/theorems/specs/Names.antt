@@ -1,41 +1,12 @@
 -- One header for all files: the model's declared types and constructors, and the names of the library, the model and its laws.
-pub use Rattle.model.specs.declared.LockId.{LockId}
-pub use Rattle.model.specs.declared.MachineId.{MachineId}
-pub use Rattle.model.specs.declared.TaskId.{TaskId}
-pub use Rattle.model.specs.declared.ClientId.{ClientId}
-pub use Rattle.model.specs.declared.Mode.{Mode}
-pub use Rattle.model.specs.declared.Mode.the-variants.{Exclusive, Shared}
-pub use Rattle.model.specs.declared.Owner.{Owner}
-pub use Rattle.model.specs.declared.Owner.the-variants.{Free as Unowned, Owned}
-pub use Rattle.model.specs.declared.Decider.{Decider}
-pub use Rattle.model.specs.declared.Waiter.{Waiter}
-pub use Rattle.model.specs.declared.Queue.{Queue}
-pub use Rattle.model.specs.declared.Agent.{Agent}
-pub use Rattle.model.specs.declared.AgentSlot.{AgentSlot}
-pub use Rattle.model.specs.declared.Address.{Address}
-pub use Rattle.model.specs.declared.Address.the-variants.{Decider as ToDecider, Machine as ToMachine}
-pub use Rattle.model.specs.declared.Message.{Message}
-pub use Rattle.model.specs.declared.Message.the-variants.{Free, Acquire, Grant, Release}
-pub use Rattle.model.specs.declared.Packet.{Packet}
-pub use Rattle.model.specs.declared.Wire.{Wire}
-pub use Rattle.model.specs.declared.Status.{Status}
-pub use Rattle.model.specs.declared.Status.the-variants.{Idle, Waiting, Holding}
-pub use Rattle.model.specs.declared.ClientState.{ClientState}
-pub use Rattle.model.specs.declared.Site.{Site}
-pub use Rattle.model.specs.declared.LockState.{LockState}
-pub use Rattle.model.specs.declared.Cluster.{Cluster}
-pub use Rattle.model.specs.declared.Call.{Call}
-pub use Rattle.model.specs.declared.Call.the-variants.{Acquire as AcquireCall, Release as ReleaseCall, Deliver as DeliverCall}
-pub use Rattle.model.specs.declared.Refusal.{Refusal}
-pub use Rattle.model.specs.declared.Refusal.the-variants.{Malformed, LockRange, MachineRange, TaskRange, ModeRange, NotIdle, StillNamed, NotHolding, IndexRange, CannotPlace, WireFull, BadRecord, TranscriptLength, NotQuiescent}
-pub use Rattle.model.specs.declared.Answer.{Answer}
-pub use Rattle.model.specs.declared.Answer.the-variants.{Accepted, Refused}
-pub use Rattle.model.specs.declared.Stepped.{Stepped}
-pub use Rattle.model.specs.declared.Outcome.{Outcome}
-pub use Rattle.model.specs.declared.Drained.{Drained}
-pub use Rattle.model.specs.declared.Reading.{Reading}
-pub use Rattle.model.specs.declared.Reading.the-variants.{Record, Bad, End}
-pub use Rattle.model.specs.declared.Replayed.{Replayed}
+pub use Rattle.model.specs.declared.{LockId.LockId, MachineId.MachineId, TaskId.TaskId, ClientId.ClientId}
+pub use Rattle.model.specs.declared.{Mode.Mode, Mode.the-variants.{Exclusive, Shared}, Owner.Owner, Owner.the-variants.{Free as Unowned, Owned}, Decider.Decider}
+pub use Rattle.model.specs.declared.{Waiter.Waiter, Queue.Queue, Agent.Agent, AgentSlot.AgentSlot}
+pub use Rattle.model.specs.declared.{Address.Address, Address.the-variants.{Decider as ToDecider, Machine as ToMachine}, Message.Message, Message.the-variants.{Free, Acquire, Grant, Release}, Packet.Packet, Wire.Wire}
+pub use Rattle.model.specs.declared.{Status.Status, Status.the-variants.{Idle, Waiting, Holding}, ClientState.ClientState, Site.Site, LockState.LockState, Cluster.Cluster}
+pub use Rattle.model.specs.declared.{Call.Call, Call.the-variants.{Acquire as AcquireCall, Release as ReleaseCall, Deliver as DeliverCall}, Reading.Reading, Reading.the-variants.{Record, Bad, End}}
+pub use Rattle.model.specs.declared.{Refusal.Refusal, Refusal.the-variants.{Malformed, LockRange, MachineRange, TaskRange, ModeRange, NotIdle, StillNamed, NotHolding, IndexRange, CannotPlace, WireFull, BadRecord, TranscriptLength, NotQuiescent}, Answer.Answer, Answer.the-variants.{Accepted, Refused}}
+pub use Rattle.model.specs.declared.{Stepped.Stepped, Outcome.Outcome, Drained.Drained, Replayed.Replayed}
 -- ---- the library
 pub use mathlib.Core.Path.{_≡_, refl, sym, ap, _∙_}
 pub use mathlib.Core.Bool.{Bool, true, false, _&&_, _||_, not, and-true, and-false, true≢false, false≢true}
@@ -52,7 +23,7 @@ pub use Rattle.model.specs.Lists.{pick, any, all}
 unfoldable pub use Rattle.model.specs.Lists.{removed}
 pub use Rattle.model.specs.States.{locks, machines, tasks, clients, queueCapacity, wireCapacity, clientOf, machineOf, modeOf, isShared, noHolders, newAgent, seated, agentOn, listed, idle, statusOf, plain, carrying, resent, unowned, lockIn}
 unfoldable pub use Rattle.model.specs.States.{queueOf, waiters, noAgent, blankPacket, wireOf, packets, freshLock, fresh}
-pub use Rattle.model.specs.WellFormed.{isClient}
+pub use Rattle.model.specs.WellFormed.{isClient, isFree}
 unfoldable pub use Rattle.model.specs.WellFormed.{lockFormed, wellFormed}
 pub use Rattle.model.specs.Changes.{siteOf, withDecider, withSlot, withStatus, Verdict, cannot-place, does, apply, accepted}
 unfoldable pub use Rattle.model.specs.Changes.{finish}

@@ -1,5 +1,5 @@
 -- Every step that a call makes is accepted and keeps the invariant: no refusal 9, no refusal 10.
-use Rattle.theorems.specs.Names.{MachineId, ClientId, Mode, Address, ToDecider, ToMachine, Packet, Idle, Holding, LockState, Accepted, Stepped, _≡_, refl, ap, true, false, List, [], _∷_, _++_, ℕ, _+_, _≤_, _<_, arith, length, length-append, leb, ltb, ltb-true, le-leb, any, removed, agentOn, statusOf, blankPacket, packets, Site, siteOf, Verdict, cannot-place, does, apply, finish, atDecider, atMachine, names, machineAt, clientNamed, packetAt, delivers, acquireStep, releaseStep, takes, deliverStep, packets-of, machines, clients, wireCapacity, inParts, Bool, pick}
+use Rattle.theorems.specs.Names.{MachineId, ClientId, Mode, Address, ToDecider, ToMachine, Packet, Idle, Holding, LockState, Accepted, Stepped, _≡_, refl, ap, true, false, List, [], _∷_, _++_, ℕ, _+_, _≤_, _<_, arith, length, length-append, leb, ltb, ltb-true, le-leb, any, removed, agentOn, statusOf, blankPacket, packets, Site, siteOf, Verdict, cannot-place, does, apply, finish, atDecider, atMachine, names, machineAt, clientNamed, packetAt, delivers, acquireStep, releaseStep, takes, deliverStep, packets-of, machines, clients, wireCapacity, Bool, pick, resent}
 use Rattle.theorems.specs.Tally.{tally-at}
 use Rattle.theorems.specs.Weights.{farM, farA, farP}
 use Rattle.theorems.specs.Invariant.{Inv}
@@ -10,8 +10,8 @@ use Rattle.theorems.specs.AtDecider.{good-decides}
 use Rattle.theorems.specs.AtMachine.{good-arrives}
 use Rattle.theorems.specs.Clients.{names-none, good-acquires, good-releases}
 
-good-delivers : (r : LockState) (rest : List Packet) (i : Inv r) (p : Packet) (t : Address) → farA t ≡ 0 → Split r (inParts (p .message) t (p .rejected) (p .carried .present) p ∷ []) rest
-    → Good r (machineAt t) (clientNamed (p .message)) rest (delivers t (siteOf r (machineAt t) (clientNamed (p .message))) (inParts (p .message) t (p .rejected) (p .carried .present) p))
+good-delivers : (r : LockState) (rest : List Packet) (i : Inv r) (p : Packet) (t : Address) → farA t ≡ 0 → Split r (resent p t (p .rejected) ∷ []) rest
+    → Good r (machineAt t) (clientNamed (p .message)) rest (delivers t (siteOf r (machineAt t) (clientNamed (p .message))) (resent p t (p .rejected)))
 unfolding delivers atDecider atMachine farM
 good-delivers r rest i p ToDecider e sp = good-decides r rest i _ (clientNamed (p .message)) (omega arith) p (p .message) (r .decider .owner) (p .carried .present) refl sp
 good-delivers r rest i p (ToMachine k) e sp =
