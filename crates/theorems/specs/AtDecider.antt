@@ -305,7 +305,7 @@ module _ (r : LockState) (rest : List Packet) (i : Inv r) (j : MachineId) (u : C
       → fits (Owned o k) true (ToMachine k) true a m ≡ true → Split r (came m true ∷ []) rest → Good r j u rest (rejects site (came m true) k)
   unfolding misfitP agentS incarnationS
   keep-rejected m o k eo s n f sp =
-      keep-resent i (still refl) jj (came m true) (ToMachine k) true sp (rw (eo, f))
+      keep-resent i (still refl) jj (came m true) _ refl refl sp (rw (eo, f))
       (omega (arith, no-others r _ rest i sp refl, differ r _ rest i sp refl s n)) (near-owner r o k i eo)
 
   keep-free-rejected : (o : Mode) (k : MachineId) → r .decider .owner ≡ Owned o k → (a .incarnation ≡ r .decider .incarnation → ⊥)
@@ -333,7 +333,7 @@ module _ (r : LockState) (rest : List Packet) (i : Inv r) (j : MachineId) (u : C
   good-on : {c : ClientId} {m : Message} {v : Site} → Still r j u v → (o : Mode) (k : MachineId) (x : Bool) → Request c m → r .decider .owner ≡ Owned o k
       → Split r (came m x ∷ []) rest → Good r j u rest (toOwner (Owned o k) v (came m x))
   unfolding toOwner
-  good-on st o k x q e sp = keep-on i st jj _ (ToMachine k) (λ w. request-any _ _ _ a w x q) (near-owner r o k i e) sp
+  good-on st o k x q e sp = keep-on i st jj _ _ refl refl refl (λ w. request-any _ _ _ a w x q) (near-owner r o k i e) sp
 
   pub good-decides : (m : Message) (o : Owner) (x : Bool) → r .decider .owner ≡ o → Split r (came m x ∷ []) rest → Good r j u rest (decides m o site (came m x))
   unfolding decides decidesAcquire decidesFree decidesGrant
@@ -352,7 +352,7 @@ module _ (r : LockState) (rest : List Packet) (i : Inv r) (j : MachineId) (u : C
   good-decides Free Unowned true e sp = impossible i sp (rw e (no-freed _ a))
   good-decides Free (Owned o k) true e sp =
       good-by r j u rest (current (r .decider) (came Free true)) _ _ (λ q. keep-freed (owned-is o k e) (eqb-true _ _ q) sp) (λ q. keep-free-rejected o k e (eqb-false _ _ q) sp)
-  good-decides (Grant c m) o false e sp = keep-on i (still refl) jj _ _ (λ w. plain-any _ _ _ a w (Grant c m)) (near-grant c m sp) sp
+  good-decides (Grant c m) o false e sp = keep-on i (still refl) jj _ _ refl refl refl (λ w. plain-any _ _ _ a w (Grant c m)) (near-grant c m sp) sp
   good-decides (Grant c m) Unowned true e sp = impossible i sp (rw e (no-offer _ a c m))
   good-decides (Grant c m) (Owned o k) true e sp =
       good-by r j u rest (current (r .decider) (came (Grant c m) true)) _ _ (λ q. keep-passed-on c m (owned-is o k e) (eqb-true _ _ q) sp) (λ q. keep-grant-rejected c m o k e (eqb-false _ _ q) sp)

@@ -262,7 +262,7 @@ module _ (r : LockState) (rest : List Packet) (i : Inv r) (k : MachineId) (kk : 
   -- sent back to the decider
   good-back : (c : ClientId) (y : Bool) {m : Message} (b x : Bool) → Request c m → slotAt r (k .0) ≡ record { present = y; agent = h } → Split r (came m b x ∷ []) rest
       → Good r k c rest (sendsBack (seen y c) (came m b x))
-  good-back c y b x q es sp = keep-on i (still es) kk _ ToDecider (λ o. request-any _ _ b _ o x q) refl sp
+  good-back c y b x q es sp = keep-on i (still es) kk _ _ refl refl refl (λ o. request-any _ _ b _ o x q) refl sp
 
   good-acquired : (y : Bool) (c : ClientId) (n : Mode) (g b x : Bool) → slotAt r (k .0) ≡ record { present = y; agent = h }
       → Split r (came (Acquire c n g) b x ∷ []) rest → Good r k c rest (acquired y (seen y c) h (came (Acquire c n g) b x) c n g)

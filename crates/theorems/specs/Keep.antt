@@ -1,8 +1,8 @@
 -- How any weight changes under a step, and what a step has to show so that the invariant is kept. A step is about machine k, whose slot was old,
 -- and client c; v is the site after it; the packets gone leave the wire, qs are sent, rest stays.
-use Rattle.theorems.specs.Names.{MachineId, ClientId, Mode, AgentSlot, Address, Packet, Status, LockState, _≡_, refl, ap, _∙_, Bool, List, [], _∷_, _++_, ℕ, _+_, _-_, _≤_, _<_, _%_, arith, ℕ-discrete, length, getD, set, length-set, set-getD, getD-set-same, getD-set-other, removed, idle, noAgent, blankPacket, packets, Site, siteOf, apply, wireOf, packets-of, machines, resent, sym, withSlot}
-use Rattle.theorems.specs.Tally.{flag, tally, tally-one, tally-append, tally-removed, tally-set, tally-at}
-use Rattle.theorems.specs.Weights.{statusAt, slotAt, weight, queuedS, waitingP, listedS, listedP, owedP, releaseP, agentS, agentP, incarnationS, incarnationP, markP, rejectedP, vacantS, waitF, holdF, idleF, ownedF, clash, farA, farP, farF, misfitS, misfitP}
+use Rattle.theorems.specs.Names.{MachineId, ClientId, Mode, AgentSlot, Packet, Status, LockState, _≡_, refl, ap, _∙_, List, [], _∷_, _++_, ℕ, _+_, _-_, _≤_, _<_, _%_, arith, ℕ-discrete, length, getD, set, length-set, set-getD, getD-set-same, getD-set-other, removed, idle, noAgent, blankPacket, packets, Site, siteOf, apply, wireOf, packets-of, machines, sym, withSlot}
+use Rattle.theorems.specs.Tally.{tally, tally-one, tally-append, tally-removed, tally-set, tally-at}
+use Rattle.theorems.specs.Weights.{statusAt, slotAt, weight, queuedS, waitingP, listedS, listedP, owedP, releaseP, agentS, agentP, incarnationS, incarnationP, markP, rejectedP, vacantS, waitF, holdF, idleF, ownedF, clash, farP, farF, misfitS, misfitP}
 use Rattle.theorems.specs.Invariant.{Inv}
 
 pub packets-after : (f : Packet → ℕ) (rest qs : List Packet) → tally f (packets (wireOf (rest ++ qs))) ≡ tally f rest + tally f qs
@@ -205,7 +205,7 @@ unfolding weight
 vacancy-by {r} {old} {k} new sends i sp kk e h =
     omega (arith, i .vacancy, sp .parts markP, sp .parts rejectedP, rw e at (tally-set vacantS noAgent (r .agents) (k .0) new (omega (arith, i .all-machines))))
 
--- ---- the packet p sent on to another address, rejected or as it was
+-- ---- the packet p goes out again as q, for another address or rejected: the same message, with the same agent
 pub same-mark : (r : LockState) (p : Packet) (rest : List Packet) → Inv r → Split r (p ∷ []) rest → rejectedP p + tally rejectedP rest + tally vacantS (r .agents) ≤ tally markP (packets (r .wire))
 unfolding weight tally
 same-mark r p rest i sp = omega (arith, i .vacancy, sp .parts rejectedP)
@@ -220,22 +220,22 @@ pub record Still (r : LockState) (k : MachineId) (c : ClientId) (v : Site) : Typ
 pub still : {r : LockState} {k : MachineId} {c : ClientId} {x : AgentSlot} → slotAt r (k .0) ≡ x → Still r k c (withSlot (siteOf r k c) x)
 still es = record { owner = refl; incarnation = refl; slot = sym es; status = refl }
 
-pub keep-resent : {r : LockState} {rest : List Packet} {k : MachineId} {c : ClientId} {v : Site} (i : Inv r) → Still r k c v → k .0 < machines → (p : Packet) (t : Address) (b : Bool)
-    → Split r (p ∷ []) rest → misfitP (r .decider .owner) (resent p t b) ≡ 0
-    → flag b + tally rejectedP rest + tally vacantS (r .agents) ≤ tally markP (packets (r .wire)) → farA t ≡ 0 → Keeps r k c rest v (resent p t b ∷ [])
+pub keep-resent : {r : LockState} {rest : List Packet} {k : MachineId} {c : ClientId} {v : Site} (i : Inv r) → Still r k c v → k .0 < machines → (p q : Packet)
+    → q .message ≡ p .message → q .carried ≡ p .carried → Split r (p ∷ []) rest → misfitP (r .decider .owner) q ≡ 0
+    → rejectedP q + tally rejectedP rest + tally vacantS (r .agents) ≤ tally markP (packets (r .wire)) → farP q ≡ 0 → Keeps r k c rest v (q ∷ [])
 unfolding tally
-keep-resent {r} {k = k} i st kk p t b sp f v fa =
+keep-resent {r} {k = k} i st kk p q m x sp f v fa =
     keep-calm i
     (record {
       frame = framed sp kk refl (st .owner);
       status = st .status;
-      waits = λ d m. rw (st .slot);
-      holds = λ d. rw (st .slot) (omega arith);
-      rels = λ d. omega arith;
-      agent = rw (st .slot);
-      incs = λ x h. rw (st .incarnation, st .slot) h;
+      waits = λ d n. rw (m, x, st .slot);
+      holds = λ d. rw (m, x, st .slot) (omega arith);
+      rels = λ d. rw m (omega arith);
+      agent = rw (x, st .slot);
+      incs = λ n h. rw (m, x, st .incarnation, st .slot) h;
       fitting = omega (arith, f);
       slot = rw (st .slot) (i .homes (k .0));
       reach = omega (arith, fa);
-      vacancy = rw (st .slot, set-getD (r .agents) (k .0) noAgent) (omega (arith, v, sp .parts markP));
+      vacancy = rw (m, st .slot, set-getD (r .agents) (k .0) noAgent) (omega (arith, v, sp .parts markP));
     })

@@ -1,6 +1,6 @@
 -- What a step must come to, packets sent on, packets that never are on the wire, and what a yes of the rules' two tests says.
-use Rattle.theorems.specs.Names.{_≡_, refl, MachineId, ClientId, Mode, Exclusive, Shared, Owner, Unowned, Agent, Address, ToDecider, ToMachine, Message, Free, Acquire, Grant, Release, Packet, Site, LockState, Bool, true, false, and-false, false≢true, List, arith, pick, machines, isShared, resent, Verdict, cannot-place, does, mayJoin, ownedShared, mayShare, and-left, and-right, [], _∷_, _<_}
-use Rattle.theorems.specs.Weights.{farA, fits, fitsP, misfitP}
+use Rattle.theorems.specs.Names.{_≡_, refl, MachineId, ClientId, Mode, Exclusive, Shared, Owner, Unowned, Agent, Address, ToDecider, ToMachine, Message, Free, Acquire, Grant, Release, Packet, Site, LockState, Bool, true, false, and-false, false≢true, List, arith, pick, machines, isShared, Verdict, cannot-place, does, mayJoin, ownedShared, mayShare, and-left, and-right, [], _∷_, _<_}
+use Rattle.theorems.specs.Weights.{farP, fits, fitsP, misfitP}
 use Rattle.theorems.specs.Invariant.{Inv}
 use Rattle.theorems.specs.Keep.{Keeps, Split, same-mark, Still, keep-resent}
 use Rattle.theorems.specs.Facts.{Request, acquire-of, release-of, came-fits}
@@ -81,8 +81,7 @@ module _ {r : LockState} {rest : List Packet} (i : Inv r) where
   impossible {p = p} sp f = absurd (omega (arith, rw f at (came-fits r rest p i sp)))
 
   -- a packet whose fitting does not turn on its address
-  pub keep-on : {k : MachineId} {c : ClientId} {v : Site} → Still r k c v → k .0 < machines → (p : Packet) (t : Address)
-      → ((o : Owner) → fitsP o p ≡ fitsP o (resent p t (p .rejected))) → farA t ≡ 0 → Split r (p ∷ []) rest
-      → Keeps r k c rest v (resent p t (p .rejected) ∷ [])
+  pub keep-on : {k : MachineId} {c : ClientId} {v : Site} → Still r k c v → k .0 < machines → (p q : Packet) → q .message ≡ p .message → q .carried ≡ p .carried → q .rejected ≡ p .rejected
+      → ((o : Owner) → fitsP o p ≡ fitsP o q) → farP q ≡ 0 → Split r (p ∷ []) rest → Keeps r k c rest v (q ∷ [])
   unfolding misfitP
-  keep-on st kk p t e fa sp = keep-resent i st kk p t (p .rejected) sp (rw (e (r .decider .owner)) at (came-fits r rest p i sp)) (same-mark r p rest i sp) fa
+  keep-on st kk p q m x b e fa sp = keep-resent i st kk p q m x sp (rw (e (r .decider .owner)) at (came-fits r rest p i sp)) (rw b (same-mark r p rest i sp)) fa
