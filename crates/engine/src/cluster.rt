@@ -3,17 +3,16 @@ use model::Answer;
 use model::CLIENTS;
 use model::ClientState;
 use model::Cluster;
-use model::Decider;
 use model::LockState;
 use model::MACHINES;
 use model::Outcome;
-use model::Owner;
 use model::Refusal;
 use model::Status;
 use model::WIRE_CAPACITY;
 use model::Wire;
 use parts::blank::blank_packet;
 use parts::blank::no_agent;
+use parts::blank::unowned;
 ghost use mathlib.Core.Path.{_≡_};
 ghost use mathlib.Core.List.{[]};
 ghost use Rattle.model.specs.States.{wireOf, freshLock};
@@ -32,10 +31,7 @@ pub fn empty_wire() -> Wire
 pub fn fresh_lock() -> LockState
     ensures { λ r. ⌜ r ≡ freshLock ⌝ }
 {
-    let d = Decider {
-        owner: Owner::Free,
-        incarnation: 0,
-    };
+    let d = unowned();
     let x = no_agent();
     let c = ClientState {
         status: Status::Idle,

@@ -1,18 +1,20 @@
-// Blank values, and packets and agents as they are made.
+// Blank values, and deciders, packets and agents as they are made.
 use model::Address;
 use model::Agent;
 use model::AgentSlot;
 use model::CLIENTS;
 use model::ClientId;
+use model::Decider;
 use model::Message;
 use model::Mode;
+use model::Owner;
 use model::Packet;
 use model::QUEUE_CAPACITY;
 use model::Queue;
 use model::Waiter;
 ghost use mathlib.Core.Path.{_≡_};
 ghost use mathlib.Core.List.{[]};
-ghost use Rattle.model.specs.States.{blankWaiter, queueOf, newAgent, seated, noAgent, plain, carrying, resent, blankPacket};
+ghost use Rattle.model.specs.States.{blankWaiter, queueOf, newAgent, seated, noAgent, plain, carrying, resent, blankPacket, unowned};
 
 pub fn blank_waiter() -> Waiter
     ensures { λ r. ⌜ r ≡ blankWaiter ⌝ }
@@ -61,6 +63,15 @@ pub fn no_agent() -> AgentSlot
     AgentSlot {
         present: false,
         agent: a,
+    }
+}
+
+pub fn unowned() -> Decider
+    ensures { λ r. ⌜ r ≡ unowned ⌝ }
+{
+    Decider {
+        owner: Owner::Free,
+        incarnation: 0,
     }
 }
 

@@ -21,6 +21,7 @@ use parts::blank::carrying;
 use parts::blank::new_agent;
 use parts::blank::plain_packet;
 use parts::blank::resent;
+use parts::blank::unowned;
 use parts::holders::is_shared;
 ghost use mathlib.Core.Path.{_≡_};
 ghost use mathlib.Core.Bool.{true, false};
@@ -152,11 +153,7 @@ pub fn decides_free(o: Owner, v: Site, p: Packet) -> Effect
         Owner::Free => cannot_place(),
         Owner::Owned(_, k) => {
             if is_current(v.decider, p) {
-                let d = Decider {
-                    owner: Owner::Free,
-                    incarnation: 0,
-                };
-                deciding(v, d, no_packet())
+                deciding(v, unowned(), no_packet())
             } else {
                 sending(v, rejected_to(p, k))
             }

@@ -1,7 +1,6 @@
 // What a rule says of a step, as the model's verdict does: that it cannot be placed, or all that it writes and sends.
 use model::AgentSlot;
 use model::Decider;
-use model::Owner;
 use model::Packet;
 use model::Queue;
 use model::Site;
@@ -9,6 +8,7 @@ use model::Status;
 use parts::blank::blank_packet;
 use parts::blank::empty_queue;
 use parts::blank::no_agent;
+use parts::blank::unowned;
 ghost use mathlib.Core.Path.{_≡_};
 ghost use mathlib.Core.List.{[], _∷_, map};
 ghost use Rattle.model.specs.States.{waiters};
@@ -78,10 +78,7 @@ pub fn grants_to(q: Queue) -> Sends
 pub fn cannot_place() -> Effect
     ensures { λ r. ⌜ verdictOf r ≡ cannot-place ⌝ }
 {
-    let d = Decider {
-        owner: Owner::Free,
-        incarnation: 0,
-    };
+    let d = unowned();
     let x = no_agent();
     let t = no_packet();
     let v = Site {

@@ -7,4 +7,4 @@ unfolding verdictOf
 returns c = refl
 
 pub cannot-place-spec : {M : Type 1} → statement M
-cannot-place-spec = tie.close (tie.spec (λ c κs. search needs) (λ c κs. search needs) returns)
+cannot-place-spec = tie.close (tie.spec (λ c κs. search needs) (λ c κs. search needs) (λ c κs. search needs) returns)
