@@ -1,6 +1,5 @@
 // The engine for programs in other languages: what the benchmark measures. Each function runs a transcript, or repeats a call on the cluster
 // that it leads to, and answers a number that the benchmark compares with the reference's.
-use model::Call;
 use model::Cluster;
 use model::LockId;
 use model::Reading;

@@ -1,10 +1,11 @@
 // A client that is idle asks for the lock in mode m.
 use crate::effect::Effect;
 use crate::effect::cannot_place;
+use crate::effect::doing;
 use crate::effect::no_packet;
 use crate::effect::one_packet;
-use crate::effect::seating_telling;
-use crate::effect::telling;
+use crate::site::with_slot;
+use crate::site::with_status;
 use model::Address;
 use model::Agent;
 use model::ClientId;
@@ -48,7 +49,8 @@ pub fn wait_here(v: Site, mut a: Agent, c: ClientId, m: Mode) -> Effect
         cannot_place()
     } else {
         a.queue = push(a.queue, Waiter { client: c, mode: m });
-        seating_telling(v, seat(a), Status::Waiting(m), no_packet())
+        let w = with_slot(with_status(v, Status::Waiting(m)), seat(a));
+        doing(w, no_packet())
     }
 }
 
@@ -59,7 +61,8 @@ pub fn ask_agent(v: Site, a: Agent, c: ClientId, m: Mode) -> Effect
 {
     if may_join(v, m) {
         let x = seat(join(a, c));
-        seating_telling(v, x, Status::Holding(m), no_packet())
+        let w = with_slot(with_status(v, Status::Holding(m)), x);
+        doing(w, no_packet())
     } else {
         wait_here(v, a, c, m)
     }
@@ -77,7 +80,8 @@ pub fn ask_decider(v: Site, c: ClientId, m: Mode) -> Effect
         },
         Address::Decider,
     );
-    telling(v, Status::Waiting(m), one_packet(p))
+    let w = with_status(v, Status::Waiting(m));
+    doing(w, one_packet(p))
 }
 
 pub fn acquire(v: Site, c: ClientId, m: Mode) -> Effect

@@ -1,12 +1,13 @@
 // Deliveries at the decider. Parameters of a rule: v the site, p the packet, o the owner.
 use crate::effect::Effect;
 use crate::effect::cannot_place;
-use crate::effect::deciding;
+use crate::effect::doing;
 use crate::effect::no_packet;
 use crate::effect::one_packet;
 use crate::effect::sending;
 use crate::effect::two_packets;
 use crate::leaving::machine_of;
+use crate::site::with_decider;
 use model::Address;
 use model::Agent;
 use model::ClientId;
@@ -76,7 +77,8 @@ pub fn grants_with(v: Site, c: ClientId, m: Mode, a: Agent) -> Effect
         Address::Machine(k),
         a,
     );
-    deciding(v, d, one_packet(p))
+    let w = with_decider(v, d);
+    doing(w, one_packet(p))
 }
 
 pub fn grants_first(v: Site, c: ClientId, m: Mode) -> Effect
@@ -111,7 +113,8 @@ pub fn shares(v: Site, c: ClientId, k: MachineId) -> Effect
         },
         Address::Machine(k),
     );
-    deciding(v, d, two_packets(g, a))
+    let w = with_decider(v, d);
+    doing(w, two_packets(g, a))
 }
 
 pub fn decides_acquire(o: Owner, v: Site, p: Packet, c: ClientId, m: Mode, granted: bool) -> Effect
@@ -153,7 +156,8 @@ pub fn decides_free(o: Owner, v: Site, p: Packet) -> Effect
         Owner::Free => cannot_place(),
         Owner::Owned(_, k) => {
             if is_current(v.decider, p) {
-                deciding(v, unowned(), no_packet())
+                let w = with_decider(v, unowned());
+                doing(w, no_packet())
             } else {
                 sending(v, rejected_to(p, k))
             }

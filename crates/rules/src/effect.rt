@@ -1,6 +1,4 @@
 // What a rule says of a step, as the model's verdict does: that it cannot be placed, or all that it writes and sends.
-use model::AgentSlot;
-use model::Decider;
 use model::Packet;
 use model::Queue;
 use model::Site;
@@ -12,7 +10,7 @@ use parts::blank::unowned;
 ghost use mathlib.Core.Path.{_≡_};
 ghost use mathlib.Core.List.{[], _∷_, map};
 ghost use Rattle.model.specs.States.{waiters};
-ghost use Rattle.model.specs.Changes.{withDecider, withSlot, withStatus, cannot-place, does};
+ghost use Rattle.model.specs.Changes.{cannot-place, does};
 ghost use Rattle.model.specs.AtMachine.{grantOf};
 ghost use Rattle.rules.specs.Effects.{sentBy, verdictOf};
 
@@ -93,7 +91,6 @@ pub fn cannot_place() -> Effect
     }
 }
 
-// ---- steps that write only a part of the site: the rest is as it was
 pub fn doing(v: Site, t: Sends) -> Effect
     ensures { λ r. ⌜ verdictOf r ≡ does v (sentBy t) ⌝ }
 {
@@ -102,48 +99,6 @@ pub fn doing(v: Site, t: Sends) -> Effect
         site: v,
         sends: t,
     }
-}
-
-pub fn seating_telling(v: Site, x: AgentSlot, st: Status, t: Sends) -> Effect
-    ensures { λ r. ⌜ verdictOf r ≡ does (withSlot (withStatus v st) x) (sentBy t) ⌝ }
-{
-    let d = v.decider;
-    doing(
-        Site {
-            decider: d,
-            slot: x,
-            status: st,
-        },
-        t,
-    )
-}
-
-pub fn seating(v: Site, x: AgentSlot, t: Sends) -> Effect
-    ensures { λ r. ⌜ verdictOf r ≡ does (withSlot v x) (sentBy t) ⌝ }
-{
-    let st = v.status;
-    seating_telling(v, x, st, t)
-}
-
-pub fn telling(v: Site, st: Status, t: Sends) -> Effect
-    ensures { λ r. ⌜ verdictOf r ≡ does (withStatus v st) (sentBy t) ⌝ }
-{
-    seating_telling(v, v.slot, st, t)
-}
-
-pub fn deciding(v: Site, d: Decider, t: Sends) -> Effect
-    ensures { λ r. ⌜ verdictOf r ≡ does (withDecider v d) (sentBy t) ⌝ }
-{
-    let x = v.slot;
-    let st = v.status;
-    doing(
-        Site {
-            decider: d,
-            slot: x,
-            status: st,
-        },
-        t,
-    )
 }
 
 // Nothing but a packet sent.

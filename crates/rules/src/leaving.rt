@@ -1,9 +1,11 @@
 // A holder is removed, and an agent whose holders are gone leaves its machine.
 use crate::effect::Effect;
+use crate::effect::doing;
 use crate::effect::no_packet;
 use crate::effect::one_packet;
-use crate::effect::seating;
 use crate::effect::sending;
+use crate::site::with_slot;
+use crate::site::with_status;
 use model::Address;
 use model::Agent;
 use model::AgentSlot;
@@ -57,10 +59,12 @@ pub fn leave(v: Site, mut a: Agent, c: ClientId) -> Effect
     let g = set_holder(h, c, false);
     if any_holder(g) {
         a.holders = g;
-        seating(v, seat(a), no_packet())
+        let w = with_slot(v, seat(a));
+        doing(w, no_packet())
     } else {
         let p = hand_over(a, g);
-        seating(v, no_agent(), one_packet(p))
+        let w = with_slot(v, no_agent());
+        doing(w, one_packet(p))
     }
 }
 
@@ -84,13 +88,8 @@ pub fn release(v: Site, c: ClientId) -> Effect
     requires { ⌜ CanonicalQueue (v .slot .agent .queue) ⌝ }
     ensures { λ r. ⌜ verdictOf r ≡ releases v c ⌝ }
 {
-    let d = v.decider;
     let x = v.slot;
-    let w = Site {
-        decider: d,
-        slot: x,
-        status: Status::Idle,
-    };
+    let w = with_status(v, Status::Idle);
     if listed(x, c) {
         leave(w, x.agent, c)
     } else {

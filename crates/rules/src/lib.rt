@@ -5,4 +5,5 @@ pub mod effect;
 pub mod leaving;
 pub mod machine;
 pub mod plan;
+pub mod site;
 pub mod steps;

@@ -2,15 +2,15 @@
 use crate::asking::may_join;
 use crate::effect::Effect;
 use crate::effect::cannot_place;
+use crate::effect::doing;
 use crate::effect::grants_to;
 use crate::effect::no_packet;
 use crate::effect::one_packet;
-use crate::effect::seating;
-use crate::effect::seating_telling;
 use crate::effect::sending;
-use crate::effect::telling;
 use crate::leaving::leave;
 use crate::leaving::listed;
+use crate::site::with_slot;
+use crate::site::with_status;
 use model::Address;
 use model::Agent;
 use model::AgentSlot;
@@ -119,7 +119,8 @@ pub fn install_shared(v: Site, c: ClientId, a: Agent) -> Effect
         incarnation: a.incarnation,
     };
     let t = grants_to(r.admitted);
-    seating_telling(v, seat(b), Status::Holding(Mode::Shared), t)
+    let st = Status::Holding(Mode::Shared);
+    doing(with_slot(with_status(v, st), seat(b)), t)
 }
 
 pub fn install_exclusive(v: Site, c: ClientId, a: Agent) -> Effect
@@ -136,7 +137,8 @@ pub fn install_exclusive(v: Site, c: ClientId, a: Agent) -> Effect
         incarnation: a.incarnation,
     };
     let st = Status::Holding(Mode::Exclusive);
-    seating_telling(v, seat(b), st, no_packet())
+    let w = with_slot(with_status(v, st), seat(b));
+    doing(w, no_packet())
 }
 
 pub fn install(v: Site, c: ClientId, m: Mode, a: Agent) -> Effect
@@ -158,7 +160,8 @@ pub fn queue_last(v: Site, mut a: Agent, c: ClientId, m: Mode) -> Effect
         cannot_place()
     } else {
         a.queue = push(a.queue, Waiter { client: c, mode: m });
-        seating(v, seat(a), no_packet())
+        let w = with_slot(v, seat(a));
+        doing(w, no_packet())
     }
 }
 
@@ -171,7 +174,8 @@ pub fn queue_first(v: Site, mut a: Agent, c: ClientId, m: Mode) -> Effect
         cannot_place()
     } else {
         a.queue = push_front(a.queue, Waiter { client: c, mode: m });
-        seating(v, seat(a), no_packet())
+        let w = with_slot(v, seat(a));
+        doing(w, no_packet())
     }
 }
 
@@ -203,7 +207,8 @@ pub fn grant_arrives(
             install(v, c, m, x.agent)
         }
     } else {
-        telling(v, Status::Holding(m), no_packet())
+        let w = with_status(v, Status::Holding(m));
+        doing(w, no_packet())
     }
 }
 
@@ -215,7 +220,8 @@ pub fn marked_arrives(v: Site, a: Agent, c: ClientId) -> Effect
     if is_shared(m) {
         let mut b = join(a, c);
         b.incarnation = std::num::wrapping_add_u8(a.incarnation, 1);
-        seating(v, seat(b), no_packet())
+        let w = with_slot(v, seat(b));
+        doing(w, no_packet())
     } else {
         cannot_place()
     }
@@ -228,7 +234,8 @@ pub fn unmarked_arrives(v: Site, a: Agent, c: ClientId, m: Mode) -> Effect
     if may_join(v, m) {
         let x = seat(join(a, c));
         let p = plain_packet(Message::Grant { client: c, mode: m }, Address::Decider);
-        seating(v, x, one_packet(p))
+        let w = with_slot(v, x);
+        doing(w, one_packet(p))
     } else {
         queue_last(v, a, c, m)
     }
@@ -269,7 +276,8 @@ pub fn free_arrives(v: Site, here: bool, x: AgentSlot) -> Effect
     if here {
         cannot_place()
     } else {
-        seating(v, x, no_packet())
+        let w = with_slot(v, x);
+        doing(w, no_packet())
     }
 }
 

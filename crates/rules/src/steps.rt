@@ -8,6 +8,7 @@ use crate::machine::at_machine;
 use crate::plan::NONE_OFF;
 use crate::plan::Plan;
 use crate::plan::judge;
+use crate::site::site_of;
 use model::Address;
 use model::ClientId;
 use model::LockState;
@@ -16,33 +17,14 @@ use model::Message;
 use model::Mode;
 use model::Packet;
 use model::Site;
-use parts::state::agent_at;
-use parts::state::status_at;
 use parts::wire::packet_at;
 ghost use mathlib.Core.Path.{_≡_};
 ghost use Prim.Native.Nat.{_<_};
-ghost use Rattle.model.specs.Changes.{siteOf};
 ghost use Rattle.model.specs.Calls.{machineAt, clientNamed, delivers, acquireStep, releaseStep, deliverStep};
 ghost use Rattle.laws.specs.Shapes.{CanonicalQueue};
 ghost use Rattle.laws.specs.Formed.{Ready};
 ghost use Rattle.rules.specs.Effects.{verdictOf};
 ghost use Rattle.rules.specs.Plans.{Plans};
-
-// The site of machine k and client c.
-pub fn site_of(s: LockState, k: MachineId, c: ClientId) -> Site
-    ensures { λ r. ⌜ r ≡ siteOf s k c ⌝ }
-{
-    let d = s.decider;
-    let agents = s.agents;
-    let clients = s.clients;
-    let x = agent_at(agents, k);
-    let st = status_at(clients, c);
-    Site {
-        decider: d,
-        slot: x,
-        status: st,
-    }
-}
 
 pub fn plan_acquire(s: LockState, c: ClientId, m: Mode) -> Plan
     requires { ⌜ Ready s ⌝ }

@@ -4,11 +4,11 @@ use Rattle.rules.proofs.asking.ask_agent.Tie as tie
 
 returns : tie.Need-returns
 unfolding asks
-returns c = rw (c .seating-telling .ensures, c .before .no-packet .ensures, c .before .before .seat .ensures, c .before .before .before .join .ensures, ← c .before .before .before .before .before .may-join .ensures, c .before .before .before .before .if1 .taken)
+returns c = rw (c .doing .ensures, c .before .no-packet .ensures, c .before .before .with-slot .ensures, c .before .before .before .with-status .ensures, c .before .before .before .before .seat .ensures, c .before .before .before .before .before .join .ensures, ← c .before .before .before .before .before .before .before .may-join .ensures, c .before .before .before .before .before .before .if1 .taken)
 
 returns-2 : tie.Need-returns-2
 unfolding asks
 returns-2 c = rw (c .wait-here .ensures, ← c .before .before .may-join .ensures, c .before .if1 .left)
 
 pub ask-agent-spec : {M : Type 1} → statement M
-ask-agent-spec = tie.close (tie.spec (λ c κs. search needs) (λ c κs. search needs) (λ c κs. search needs) (λ c κs. search needs) (λ c κs. search needs) (λ c κs. search needs) returns returns-2)
+ask-agent-spec = tie.close (tie.spec (λ c κs. search needs) (λ c κs. search needs) (λ c κs. search needs) (λ c κs. search needs) (λ c κs. search needs) (λ c κs. search needs) (λ c κs. search needs) (λ c κs. search needs) returns returns-2)

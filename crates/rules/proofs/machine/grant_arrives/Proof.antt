@@ -16,7 +16,7 @@ returns-3 c = rw (c .install .ensures, c .before .before .before .if1 .taken, c 
 
 returns-4 : tie.Need-returns-4
 unfolding granted
-returns-4 c = rw (c .telling .ensures, c .before .no-packet .ensures, c .before .before .if1 .left)
+returns-4 c = rw (c .doing .ensures, c .before .no-packet .ensures, c .before .before .with-status .ensures, c .before .before .before .if1 .left)
 
 pub grant-arrives-spec : {M : Type 1} → statement M
-grant-arrives-spec = tie.close (tie.spec (λ c κs. search needs) (λ c κs. search needs) (λ c κs. search needs) (λ c κs. search needs) (λ c κs. search needs) returns returns-2 returns-3 returns-4)
+grant-arrives-spec = tie.close (tie.spec (λ c κs. search needs) (λ c κs. search needs) (λ c κs. search needs) (λ c κs. search needs) (λ c κs. search needs) (λ c κs. search needs) returns returns-2 returns-3 returns-4)

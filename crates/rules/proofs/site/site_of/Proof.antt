@@ -1,6 +1,6 @@
 use Rattle.rules.proofs.Base.{needs}
-use Rattle.rules.proofs.steps.site_of.Statement.{statement}
-use Rattle.rules.proofs.steps.site_of.Tie as tie
+use Rattle.rules.proofs.site.site_of.Statement.{statement}
+use Rattle.rules.proofs.site.site_of.Tie as tie
 
 returns : tie.Need-returns
 returns c = rw (c .status-at .ensures, c .before .agent-at .ensures)

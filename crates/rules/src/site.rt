@@ -1,0 +1,54 @@
+// What a step looks at and may write, of one machine and one client.
+use model::AgentSlot;
+use model::ClientId;
+use model::Decider;
+use model::LockState;
+use model::MachineId;
+use model::Site;
+use model::Status;
+use parts::state::agent_at;
+use parts::state::status_at;
+ghost use mathlib.Core.Path.{_≡_};
+ghost use Rattle.model.specs.Changes.{siteOf, withDecider, withSlot, withStatus};
+
+pub fn site_of(s: LockState, k: MachineId, c: ClientId) -> Site
+    ensures { λ r. ⌜ r ≡ siteOf s k c ⌝ }
+{
+    let d = s.decider;
+    let agents = s.agents;
+    let clients = s.clients;
+    let x = agent_at(agents, k);
+    let st = status_at(clients, c);
+    Site {
+        decider: d,
+        slot: x,
+        status: st,
+    }
+}
+
+// ---- the site with one part written
+pub fn with_decider(mut v: Site, d: Decider) -> Site
+    ensures { λ r. ⌜ r ≡ withDecider v d ⌝ }
+{
+    v.decider = d;
+    v
+}
+
+pub fn with_slot(mut v: Site, x: AgentSlot) -> Site
+    ensures { λ r. ⌜ r ≡ withSlot v x ⌝ }
+{
+    v.slot = x;
+    v
+}
+
+pub fn with_status(v: Site, st: Status) -> Site
+    ensures { λ r. ⌜ r ≡ withStatus v st ⌝ }
+{
+    let d = v.decider;
+    let x = v.slot;
+    Site {
+        decider: d,
+        slot: x,
+        status: st,
+    }
+}
