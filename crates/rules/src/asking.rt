@@ -24,10 +24,9 @@ ghost use mathlib.Core.Path.{_≡_};
 ghost use mathlib.Core.Bool.{true, false};
 ghost use mathlib.Core.List.{[]};
 ghost use Rattle.model.specs.States.{seated};
-ghost use Rattle.model.specs.Changes.{withSlot, withStatus, does};
+ghost use Rattle.model.specs.Changes.{withSlot, does};
 ghost use Rattle.model.specs.Asking.{queuing, withRoom, mayJoin, asks, acquires};
 ghost use Rattle.laws.specs.Shapes.{CanonicalQueue};
-ghost use Rattle.rules.specs.Names.{Waiting};
 ghost use Rattle.rules.specs.Effects.{verdictOf};
 
 // A request may join the holders of the site's agent: agent and request are both shared.
@@ -40,16 +39,16 @@ pub fn may_join(v: Site, m: Mode) -> bool
     if is_shared(n) { is_shared(m) } else { false }
 }
 
-// The client joins the end of the queue of its machine's agent.
-pub fn wait_here(v: Site, mut a: Agent, c: ClientId, m: Mode) -> Effect
+// The client joins the end of the agent's queue.
+pub fn queue_last(v: Site, mut a: Agent, c: ClientId, m: Mode) -> Effect
     requires { ⌜ CanonicalQueue (a .queue) ⌝ }
-    ensures { λ r. ⌜ verdictOf r ≡ withRoom a c (does (withSlot (withStatus v (Waiting m)) (seated (queuing a c m))) []) ⌝ }
+    ensures { λ r. ⌜ verdictOf r ≡ withRoom a c (does (withSlot v (seated (queuing a c m))) []) ⌝ }
 {
     if no_room(a, c) {
         cannot_place()
     } else {
         a.queue = push(a.queue, Waiter { client: c, mode: m });
-        let w = with_slot(with_status(v, Status::Waiting(m)), seat(a));
+        let w = with_slot(v, seat(a));
         doing(w, no_packet())
     }
 }
@@ -64,7 +63,7 @@ pub fn ask_agent(v: Site, a: Agent, c: ClientId, m: Mode) -> Effect
         let w = with_slot(with_status(v, Status::Holding(m)), x);
         doing(w, no_packet())
     } else {
-        wait_here(v, a, c, m)
+        queue_last(with_status(v, Status::Waiting(m)), a, c, m)
     }
 }
 

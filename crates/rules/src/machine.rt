@@ -1,5 +1,6 @@
 // Deliveries at a machine. v is the site.
 use crate::asking::may_join;
+use crate::asking::queue_last;
 use crate::effect::Effect;
 use crate::effect::cannot_place;
 use crate::effect::doing;
@@ -40,7 +41,7 @@ ghost use Prim.Native.Nat.{_≤_};
 ghost use lib.ListN.{take};
 ghost use Rattle.model.specs.States.{queueCapacity, waiters, seated};
 ghost use Rattle.model.specs.Changes.{withSlot, does};
-ghost use Rattle.model.specs.Asking.{queuing, withRoom};
+ghost use Rattle.model.specs.Asking.{withRoom};
 ghost use Rattle.model.specs.AtMachine.{sentBack, installs, requeued, granted, marked, unmarked, acquired, released, returned, arrives, atMachine};
 ghost use Rattle.laws.specs.Shapes.{CanonicalQueue};
 ghost use Rattle.rules.specs.Names.{Exclusive, Shared};
@@ -148,20 +149,6 @@ pub fn install(v: Site, c: ClientId, m: Mode, a: Agent) -> Effect
     match m {
         Mode::Exclusive => install_exclusive(v, c, a),
         Mode::Shared => install_shared(v, c, a),
-    }
-}
-
-// The client joins the end of the agent's queue.
-pub fn queue_last(v: Site, mut a: Agent, c: ClientId, m: Mode) -> Effect
-    requires { ⌜ CanonicalQueue (a .queue) ⌝ }
-    ensures { λ r. ⌜ verdictOf r ≡ withRoom a c (does (withSlot v (seated (queuing a c m))) []) ⌝ }
-{
-    if no_room(a, c) {
-        cannot_place()
-    } else {
-        a.queue = push(a.queue, Waiter { client: c, mode: m });
-        let w = with_slot(v, seat(a));
-        doing(w, no_packet())
     }
 }
 

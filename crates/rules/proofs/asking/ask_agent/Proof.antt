@@ -8,7 +8,7 @@ returns c = rw (c .doing .ensures, c .before .no-packet .ensures, c .before .bef
 
 returns-2 : tie.Need-returns-2
 unfolding asks
-returns-2 c = rw (c .wait-here .ensures, ← c .before .before .may-join .ensures, c .before .if1 .left)
+returns-2 c = rw (c .queue-last .ensures, c .before .with-status2 .ensures, ← c .before .before .before .may-join .ensures, c .before .before .if1 .left)
 
 pub ask-agent-spec : {M : Type 1} → statement M
-ask-agent-spec = tie.close (tie.spec (λ c κs. search needs) (λ c κs. search needs) (λ c κs. search needs) (λ c κs. search needs) (λ c κs. search needs) (λ c κs. search needs) (λ c κs. search needs) (λ c κs. search needs) returns returns-2)
+ask-agent-spec = tie.close (tie.spec (λ c κs. search needs) (λ c κs. search needs) (λ c κs. search needs) (λ c κs. search needs) (λ c κs. search needs) (λ c κs. search needs) (λ c κs. search needs) (λ c κs. search needs) (λ c κs. search needs) returns returns-2)

@@ -1,6 +1,6 @@
 use Rattle.rules.proofs.Base.{sym, _∙_, needs, room-left}
-use Rattle.rules.proofs.machine.queue_last.Statement.{statement}
-use Rattle.rules.proofs.machine.queue_last.Tie as tie
+use Rattle.rules.proofs.asking.queue_last.Statement.{statement}
+use Rattle.rules.proofs.asking.queue_last.Tie as tie
 
 push-requires : tie.Need-push-requires
 push-requires c κs = (c .before .before .pre, room-left (c .before .before .args .a) (c .before .before .args .c) (c .before .before .pre) (sym (c .before .no-room .ensures) ∙ c .if1 .left))
