@@ -57,11 +57,7 @@ releaseWithin s k t = stepUnless (first (releaseTests s k t)) s (releaseStep s (
 unfoldable pub deliverWithin : LockState → ℕ → Stepped
 deliverWithin s i = stepUnless (first (deliverTests s i)) s (deliverStep s i)
 
--- ---- a cause that holds, and one that does not
-pub first-yes : (n : Refusal) {b : Bool} (cs : List Cause) → b ≡ true → first ((n when b) ∷ cs) ≡ Refused n
-unfolding first
-first-yes n cs e = rw e
-
+-- ---- a cause that does not hold
 pub first-no : (n : Refusal) {b : Bool} (cs : List Cause) → b ≡ false → first ((n when b) ∷ cs) ≡ first cs
 unfolding first
 first-no n cs e = rw e
