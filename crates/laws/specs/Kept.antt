@@ -20,7 +20,7 @@ use Rattle.laws.specs.Tests.{and-left, and-right, both, or-left, or-righ
 use Rattle.laws.specs.Lists.{all-append, all-removed, all-set, left-out, whole, sublist-all}
 use Rattle.laws.specs.Formed.{Fit, fit, new-fit, no-agent-formed, Whole, Parts, parts, agent-on, packet-at, inParts}
 use Rattle.laws.specs.Making.{machine-in-range, Line, line, line-sublist, line-end, line-front, queue-formed, fit-holder, seated-formed, packet-formed, plain-whole, carrying-whole, resent-whole, wire-formed}
-use Rattle.laws.specs.Parting.{parting, admitted-sublist, staying-sublist, length-joined}
+use Rattle.laws.specs.Parting.{parting, sublists, length-joined}
 
 -- every packet sent is well formed
 pub data Sends : List Packet → Type 0 where
@@ -116,7 +116,7 @@ module _ (v : Site) (f : Set v) where
         let l = line (a .queue) (q .queue) in
         let ws = waiters (a .queue) in
         let n : length (joined (set (a .holders) (c .0) true) (admitted m ws)) ≡ clients = length-joined (set (a .holders) (c .0) true) (admitted m ws) ∙ (length-set (a .holders) (c .0) true ∙ q .all-clients) in
-        keeps (f .owner) (seated-formed (record { all-clients = n; queue = queue-formed (line-sublist (staying-sublist (parting m ws)) l) })) (grants-sent (admitted m ws) (sublist-all waiterInRange (admitted-sublist (parting m ws)) (l .ranged)))
+        keeps (f .owner) (seated-formed (record { all-clients = n; queue = queue-formed (line-sublist (sublists (parting m ws) .1) l) })) (grants-sent (admitted m ws) (sublist-all waiterInRange (sublists (parting m ws) .0) (l .ranged)))
 
   sound-leaves : (a : Agent) (c : ClientId) → Fit a → Sound (leaves v a c)
   unfolding staysIf

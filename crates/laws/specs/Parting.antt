@@ -15,7 +15,7 @@ pub data Parting : List Waiter → List Waiter → List Waiter → Type 0 where
   first-leaves : {w : Waiter} {out stay ws : List Waiter} → isShared (w .mode) ≡ true → Parting out stay ws → Parting (w ∷ out) stay (w ∷ ws)
   first-stays : {w : Waiter} {out stay ws : List Waiter} → Parting out stay ws → Parting out (w ∷ stay) (w ∷ ws)
 
--- This is all that the theorems use of the rule: whoever changes it proves this anew.
+-- This and `none-leaves` are all that the theorems use of the rule; the code's proofs use the laws at the queue's head. Whoever changes it proves these anew.
 pub parting : (m : Mode) (ws : List Waiter) → Parting (admitted m ws) (staying m ws) ws
 unfolding admitted staying
 parting m [] = done
@@ -42,15 +42,10 @@ pub exclusive-stays : (w : Waiter) (ws : List Waiter) → isShared (w .mode) ≡
 unfolding admitted staying
 exclusive-stays w ws e = (rw e, rw e)
 
-pub admitted-sublist : {out stay ws : List Waiter} → Parting out stay ws → Sublist out ws
-admitted-sublist done = empty
-admitted-sublist (first-leaves e p) = kept (admitted-sublist p)
-admitted-sublist (first-stays p) = left-out (admitted-sublist p)
-
-pub staying-sublist : {out stay ws : List Waiter} → Parting out stay ws → Sublist stay ws
-staying-sublist done = empty
-staying-sublist (first-leaves e p) = left-out (staying-sublist p)
-staying-sublist (first-stays p) = kept (staying-sublist p)
+pub sublists : {out stay ws : List Waiter} → Parting out stay ws → Sublist out ws × Sublist stay ws
+sublists done = (empty, empty)
+sublists (first-leaves e p) = (kept (sublists p .0), left-out (sublists p .1))
+sublists (first-stays p) = (left-out (sublists p .0), kept (sublists p .1))
 
 pub length-joined : (hs : List Bool) (ws : List Waiter) → length (joined hs ws) ≡ length hs
 unfolding joined

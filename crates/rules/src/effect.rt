@@ -91,6 +91,7 @@ pub fn cannot_place() -> Effect
     }
 }
 
+// The step is placed: it writes the site and sends the packets.
 pub fn doing(v: Site, t: Sends) -> Effect
     ensures { λ r. ⌜ verdictOf r ≡ does v (sentBy t) ⌝ }
 {

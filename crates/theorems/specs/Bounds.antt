@@ -9,11 +9,12 @@ use Rattle.model.specs.Lists.{any, all, padded}
 use Rattle.theorems.specs.Names.{MachineId, ClientId, Exclusive, Shared, Unowned, Owned, Waiter, Queue, AgentSlot, Address, ToDecider, ToMachine, Message, Free, Acquire, Grant, Release, Packet, Wire, LockState, machines, clients, plain, carrying, inParts, Owner, _+_, locks, tasks, queueCapacity, wireCapacity}
 use Rattle.model.specs.States.{queueOf, newAgent, seated, noAgent, idle, blankWaiter, blankPacket, wireOf, noHolders}
 use Rattle.model.specs.Drain.{allowance}
+use Rattle.theorems.specs.Statements.{provedBound}
 use Rattle.model.specs.WellFormed.{shaped, isBlankWaiter, distinct, queueFormed, agentFormed, isBlankAgent, slotFormed, messageFormed, packetFormed, isBlankPacket, wireFormed, lockFormed}
 
--- Document 01's numbers. Everything else goes by their names.
-pub sizes-are : (locks ≡ 8) × (machines ≡ 4) × (tasks ≡ 4) × (clients ≡ 16) × (queueCapacity ≡ 16) × (wireCapacity ≡ 33) × (allowance ≡ 16384)
-sizes-are = (refl, refl, refl, refl, refl, refl, refl)
+-- Document 01's numbers, and the one that README gives. Everything else goes by their names.
+pub sizes-are : (locks ≡ 8) × (machines ≡ 4) × (tasks ≡ 4) × (clients ≡ 16) × (queueCapacity ≡ 16) × (wireCapacity ≡ 33) × (allowance ≡ 16384) × (provedBound ≡ 11384)
+sizes-are = (refl, refl, refl, refl, refl, refl, refl, refl)
 
 -- a well-formed state, and one that differs from it in one bound
 pub record Bound : Type 0 where
