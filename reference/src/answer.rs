@@ -10,7 +10,7 @@ pub enum Refusal {
     ClientNotIdle,
     ClientOnWire,
     ClientNotHolding,
-    PlaceOutOfRange,
+    IndexOutOfRange,
     CannotBePlaced,
     WireFull,
     Malformed,
@@ -20,7 +20,7 @@ pub enum Refusal {
 }
 
 impl Refusal {
-    /// The number in the table "Zero and the refusals" of document 01.
+    /// The refusal's number (document 01, 'Zero and the refusals').
     pub fn number(self) -> u8 {
         match self {
             Refusal::LockOutOfRange => 1,
@@ -30,7 +30,7 @@ impl Refusal {
             Refusal::ClientNotIdle => 5,
             Refusal::ClientOnWire => 6,
             Refusal::ClientNotHolding => 7,
-            Refusal::PlaceOutOfRange => 8,
+            Refusal::IndexOutOfRange => 8,
             Refusal::CannotBePlaced => 9,
             Refusal::WireFull => 10,
             Refusal::Malformed => 11,

@@ -1,4 +1,4 @@
-//! Delivery of a packet at the decider (Figure 8) or at a machine (Figure 7).
+//! Delivery of a packet (document 01, 'At the decider' and 'At a machine').
 //!
 //! A delivery first chooses its action, which tests refusal 9, then counts the
 //! packets that the action sends, which tests refusal 10, and only then
@@ -11,7 +11,7 @@ use crate::model::{
 };
 use crate::requests::check_wire_length;
 
-/// What a delivery does; each variant is one rule of document 01.
+/// What a delivery does, one variant for each rule of the two sections.
 #[derive(Clone, Copy, Debug)]
 enum Action {
     /// The decider of a free lock makes a new agent for the request.
@@ -24,7 +24,7 @@ enum Action {
     FreeLock,
     /// The decider accepts a GRANT with agent.
     TransferAgent,
-    /// The decider rejects a FREE or a GRANT with agent.
+    /// The decider rejects the agent that the packet carries.
     RejectAgent(Owner),
     /// A machine shows a client its grant, which brings no agent.
     ShowGrant,
@@ -43,28 +43,28 @@ enum Action {
 }
 
 impl Cluster {
-    pub fn deliver(&mut self, lock: LockId, place: u8) -> Outcome {
+    pub fn deliver(&mut self, lock: LockId, index: u8) -> Outcome {
         self.check_well_formed()?;
-        self.deliver_checked(lock, place)
+        self.deliver_checked(lock, index)
     }
 
     /// A delivery on a cluster that is known to be well formed.
-    pub(crate) fn deliver_checked(&mut self, lock: LockId, place: u8) -> Outcome {
+    pub(crate) fn deliver_checked(&mut self, lock: LockId, index: u8) -> Outcome {
         let state = self.lock_mut(lock)?;
-        state.deliver(usize::from(place))
+        state.deliver(usize::from(index))
     }
 }
 
 impl LockState {
-    pub(crate) fn deliver(&mut self, place: usize) -> Outcome {
-        let packet = self.wire.get(place).ok_or(Refusal::PlaceOutOfRange)?;
+    pub(crate) fn deliver(&mut self, index: usize) -> Outcome {
+        let packet = self.wire.get(index).ok_or(Refusal::IndexOutOfRange)?;
         let action = match packet.address {
             Address::Decider => self.decider.action_for(packet)?,
             Address::Machine(machine) => self.machine_action(machine, packet)?,
         };
         let expected = self.wire.len() - 1 + self.sent_by(action, packet);
         check_wire_length(expected)?;
-        let packet = self.wire.remove(place);
+        let packet = self.wire.remove(index);
         match packet.address {
             Address::Decider => self.apply_at_decider(action, packet),
             Address::Machine(_) => self.apply_at_machine(action, packet),
@@ -106,7 +106,8 @@ impl LockState {
             (Message::Acquire { .. } | Message::Release { .. }, None) => Ok(go_back),
             (Message::Acquire { granted: true, .. }, Some(agent)) => match agent.mode {
                 Mode::Shared => Ok(Action::ConfirmHolder(machine)),
-                // "a marked ACQUIRE at an exclusive agent" cannot be placed.
+                // What the decider granted is shared, so it cannot belong to an
+                // exclusive agent (document 01, 'Zero and the refusals').
                 Mode::Exclusive => Err(Refusal::CannotBePlaced),
             },
             (Message::Acquire { client, mode, .. }, Some(agent)) => {
@@ -169,7 +170,7 @@ impl LockState {
         let Message::Acquire { client, mode, .. } = request else {
             unreachable!("only an ACQUIRE is granted at once");
         };
-        // "The incarnation has eight bits and goes from 255 to 0."
+        // A u8 that wraps (document 01, 'What stands on the bench').
         self.decider.incarnation = self.decider.incarnation.wrapping_add(1);
         self.wire.push(Packet::new(
             Message::Grant { client, mode },
@@ -242,7 +243,8 @@ impl LockState {
         agent.mode = mode;
         agent.holders.insert(client);
         if mode == Mode::Shared {
-            // "every shared waiter, in queue order, leaves the queue"
+            // Readers share, so all that wait get in together; writers wait on
+            // (document 01, 'At a machine').
             for waiter in agent.queue.iter().filter(|w| w.mode == Mode::Shared) {
                 agent.holders.insert(waiter.client);
                 self.send_plain_grant(waiter.client, waiter.mode);
@@ -282,7 +284,8 @@ impl Decider {
             _ => None,
         };
         let Some(owner) = self.owner else {
-            // A free decider places nothing but an unmarked ACQUIRE.
+            // A free lock has no agent, so only a new request makes sense here
+            // (document 01, 'Zero and the refusals').
             let created = unmarked_mode.map(|_| Action::CreateAgent);
             return created.ok_or(Refusal::CannotBePlaced);
         };
@@ -294,7 +297,9 @@ impl Decider {
                 Action::Forward(Address::Machine(owner.machine))
             });
         };
-        // Equality, never "at least": an old agent must not end a newer grant.
+        // An agent that missed a shared grant must not leave. After a wrap it may
+        // have the greater number, so nothing but equality will do
+        // (document 01, 'At the decider').
         Ok(if agent.incarnation != self.incarnation {
             Action::RejectAgent(owner)
         } else if packet.message == Message::Free {
@@ -325,7 +330,7 @@ fn carried_agent_action(
     carried: &Agent,
     packet: &Packet,
 ) -> Result<Action, Refusal> {
-    // "at a machine that has an agent, another agent" cannot be placed.
+    // A machine has room for one agent (document 01, 'Zero and the refusals').
     if installed.is_some() {
         return Err(Refusal::CannotBePlaced);
     }

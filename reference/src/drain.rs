@@ -1,9 +1,10 @@
-//! The drain of one lock.
+//! The drain of one lock (document 01, 'Draining a lock').
 
 use crate::answer::{Outcome, Refusal};
 use crate::model::{ClientId, ClientStatus, Cluster, LockId, LockState, CLIENTS};
 
-/// "drain not at rest after 16,384 steps".
+/// A drain that needs more steps is refused with 14 (document 01, 'Zero and
+/// the refusals').
 pub const DRAIN_LIMIT: u16 = 16_384;
 
 enum DrainStep {
@@ -25,7 +26,7 @@ impl Cluster {
 }
 
 impl LockState {
-    /// Whether the drain has no step for this lock.
+    /// Whether nothing is in flight and no client holds the lock.
     pub fn is_quiescent(&self) -> bool {
         self.next_drain_step().is_none()
     }
@@ -42,8 +43,8 @@ impl LockState {
         Ok(steps)
     }
 
-    /// "deliver place 0; with an empty wire, release the holding client of
-    /// lowest number; with neither, stop".
+    /// Packets before holders, the oldest packet and the lowest holder first;
+    /// none once the lock is quiescent.
     fn next_drain_step(&self) -> Option<DrainStep> {
         if !self.wire.is_empty() {
             return Some(DrainStep::DeliverOldest);

@@ -1,4 +1,5 @@
-//! The state of the cluster: locks, machines, tasks and packets in flight.
+//! The state of the cluster: locks, machines, tasks and packets in flight
+//! (document 01, 'What stands on the bench').
 //!
 //! The types can also hold states outside the bounds of document 01, so that
 //! hand-made malformed states can be represented and refused.
@@ -145,8 +146,8 @@ impl Agent {
         }
     }
 
-    /// Document 01 refuses a client "that would join, or go back to, a queue
-    /// where it already stands or that holds 16".
+    /// Whether the queue has room and does not have the client yet; otherwise a
+    /// step is refused with 9 (document 01, 'Zero and the refusals').
     pub fn can_enqueue(&self, client: ClientId) -> bool {
         self.queue.len() < QUEUE_CAPACITY && self.queue.iter().all(|w| w.client != client)
     }
@@ -159,7 +160,7 @@ pub struct Owner {
     pub machine: MachineId,
 }
 
-/// The owner is absent exactly when the lock is free.
+/// A free lock has no owner.
 #[derive(Clone, Copy, Debug, Default, PartialEq, Eq)]
 pub struct Decider {
     pub owner: Option<Owner>,
@@ -192,7 +193,7 @@ pub enum Message {
 }
 
 impl Message {
-    /// The client that the message names; "FREE names no client".
+    /// The client that the message is about; a FREE is about none.
     pub fn client(&self) -> Option<ClientId> {
         match *self {
             Message::Acquire { client, .. } => Some(client),
@@ -237,7 +238,7 @@ impl Packet {
     }
 }
 
-/// All that the cluster keeps for one lock.
+/// The state of one lock.
 #[derive(Clone, Debug, Default, PartialEq, Eq)]
 pub struct LockState {
     pub decider: Decider,
@@ -249,7 +250,7 @@ pub struct LockState {
     pub stale_slot: bool,
 }
 
-/// The default cluster is the fresh one of document 01.
+/// The default cluster is the fresh one.
 #[derive(Clone, Debug, Default, PartialEq, Eq)]
 pub struct Cluster {
     pub locks: [LockState; LOCKS],

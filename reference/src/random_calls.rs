@@ -74,7 +74,7 @@ const WILD: Profile = Profile {
     wild: 32,
     ..BASE
 };
-/// Long enough for an incarnation to go from 255 to 0.
+/// Long enough for an incarnation to wrap.
 const PINNED_READER: Profile = Profile {
     steps: 3_072,
     shared: 64,
@@ -120,7 +120,7 @@ pub struct Call {
     pub machine: MachineId,
     pub task: TaskId,
     pub mode: u8,
-    pub place: u8,
+    pub index: u8,
 }
 
 impl Profile {
@@ -132,8 +132,8 @@ impl Profile {
         if outputs[1] % 64 < self.wild {
             return wild_call(outputs);
         }
-        let index = (seed + outputs[3] % self.locks) % LOCKS as u64;
-        let state = &cluster.locks[index as usize];
+        let lock = (seed + outputs[3] % self.locks) % LOCKS as u64;
+        let state = &cluster.locks[lock as usize];
         let machine = MachineId((outputs[4] % 4) as u8);
         let task = TaskId((outputs[5] % 4) as u8);
         let mode = if outputs[6] % 64 < self.shared {
@@ -143,11 +143,11 @@ impl Profile {
         };
         Call {
             kind: self.choose_kind(outputs[2] % 64, state, ClientId::new(machine, task)),
-            lock: LockId(index as u8),
+            lock: LockId(lock as u8),
             machine,
             task,
             mode: mode.number(),
-            place: self.choose_place(outputs, state),
+            index: self.choose_index(outputs, state),
         }
     }
 
@@ -163,15 +163,15 @@ impl Profile {
         }
     }
 
-    /// A place up to the wire's length, mostly past the delayed packets.
-    fn choose_place(&self, outputs: &[u64; 8], state: &LockState) -> u8 {
+    /// An index up to the wire's length, mostly past the delayed packets.
+    fn choose_index(&self, outputs: &[u64; 8], state: &LockState) -> u8 {
         let length = state.wire.len() as u64;
-        let mut place = outputs[7] % (length + 1);
+        let mut index = outputs[7] % (length + 1);
         let hurries = (outputs[1] / 64).is_multiple_of(8);
-        while !hurries && place < length && self.delays(&state.wire[place as usize]) {
-            place += 1;
+        while !hurries && index < length && self.delays(&state.wire[index as usize]) {
+            index += 1;
         }
-        place as u8
+        index as u8
     }
 
     fn delays(&self, packet: &Packet) -> bool {
@@ -192,7 +192,7 @@ fn wild_call(outputs: &[u64; 8]) -> Call {
         machine: MachineId((outputs[4] % 6) as u8),
         task: TaskId((outputs[5] % 6) as u8),
         mode: (outputs[6] % 6) as u8,
-        place: (outputs[7] % 41) as u8,
+        index: (outputs[7] % 41) as u8,
     }
 }
 
@@ -201,7 +201,7 @@ impl Call {
         match self.kind {
             ACQUIRE => cluster.acquire(self.lock, self.machine, self.task, self.mode),
             RELEASE => cluster.release(self.lock, self.machine, self.task),
-            _ => cluster.deliver(self.lock, self.place),
+            _ => cluster.deliver(self.lock, self.index),
         }
     }
 }
@@ -209,7 +209,7 @@ impl Call {
 impl fmt::Display for Call {
     fn fmt(&self, f: &mut fmt::Formatter) -> fmt::Result {
         let (lock, machine, task) = (self.lock.0, self.machine.0, self.task.0);
-        let (kind, mode, place) = (self.kind, self.mode, self.place);
-        write!(f, "kind {kind} args {lock} {machine} {task} {mode} {place}")
+        let (kind, mode, index) = (self.kind, self.mode, self.index);
+        write!(f, "kind {kind} args {lock} {machine} {task} {mode} {index}")
     }
 }

@@ -116,8 +116,8 @@ fn draw_lock(generator: &mut Generator) -> LockState {
     };
     draw_agents(generator, flaw, &mut lock);
     lock.clients = std::array::from_fn(|_| draw_status(generator));
-    for place in 0..packets {
-        let packet = draw_packet(generator, flaw.at(MACHINES + place), &mut lock.stale_slot);
+    for index in 0..packets {
+        let packet = draw_packet(generator, flaw.at(MACHINES + index), &mut lock.stale_slot);
         lock.wire.push(packet);
     }
     if fault == Fault::WireTooLong {
@@ -194,9 +194,9 @@ fn draw_agent(
     }
     let length = QUEUE_LENGTHS[generator.draw(8) as usize];
     let first = generator.draw(16);
-    for place in 0..QUEUE_CAPACITY as u64 {
+    for index in 0..QUEUE_CAPACITY as u64 {
         // An odd stride gives sixteen different clients.
-        let client = ClientId(((first + 5 * place) % 16) as u8);
+        let client = ClientId(((first + 5 * index) % 16) as u8);
         let mode = draw_mode(generator);
         agent.queue.push_back(Waiter { client, mode });
     }

@@ -70,7 +70,7 @@ fn push_record(call: &Call, damage: Option<u64>, bytes: &mut Vec<u8>) {
     let (lock, machine, task) = (call.lock.0, call.machine.0, call.task.0);
     let values = match call.kind {
         ACQUIRE | RELEASE => [lock, machine, task, call.mode],
-        _ => [lock, call.place, 0, 0],
+        _ => [lock, call.index, 0, 0],
     };
     let used = usize::from(5 - call.kind);
     let (length, kind) = (4 + used as u16, u16::from(call.kind));

@@ -1,4 +1,4 @@
-//! Acquire and release by a client (Figure 6).
+//! Acquire and release by a client (document 01, 'Asking and handing back').
 
 use crate::answer::{Outcome, Refusal};
 use crate::model::{
@@ -129,7 +129,8 @@ impl LockState {
         usize::from(agent.is_some_and(|agent| agent.holders.is_only(client)))
     }
 
-    /// Removes a listed holder; then the agent "leaves if empty".
+    /// Removes a listed holder. After the last one the agent leaves, in a GRANT
+    /// for the next waiter or, when nobody waits, in a FREE.
     pub(crate) fn remove_holder(&mut self, machine: MachineId, client: ClientId) {
         let slot = &mut self.agents[machine.index()];
         let Some(agent) = slot.as_mut() else {

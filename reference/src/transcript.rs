@@ -1,4 +1,5 @@
-//! Transcripts: reading records, running them, and the listing.
+//! Transcripts: reading records, running them, and the listing (document 01,
+//! 'Transcripts and the desk program').
 
 use crate::answer::{answer_number, Outcome, Refusal};
 use crate::model::{Cluster, LockId, MachineId, TaskId};
@@ -43,7 +44,7 @@ impl Record {
                 cluster.acquire(lock, machine, task, mode)
             }
             Record::Release(lock, machine, task) => cluster.release(lock, machine, task),
-            Record::Deliver(lock, place) => cluster.deliver(lock, place),
+            Record::Deliver(lock, index) => cluster.deliver(lock, index),
         }
     }
 
@@ -55,7 +56,7 @@ impl Record {
                 cluster.acquire_checked(lock, machine, task, mode)
             }
             Record::Release(lock, machine, task) => cluster.release_checked(lock, machine, task),
-            Record::Deliver(lock, place) => cluster.deliver_checked(lock, place),
+            Record::Deliver(lock, index) => cluster.deliver_checked(lock, index),
         }
     }
 
@@ -72,7 +73,7 @@ impl Record {
                 MachineId(machine),
                 TaskId(task),
             )),
-            (3, &[lock, place]) => Some(Record::Deliver(LockId(lock), place)),
+            (3, &[lock, index]) => Some(Record::Deliver(LockId(lock), index)),
             _ => None,
         }
     }
@@ -117,8 +118,8 @@ impl Iterator for Records<'_> {
     }
 }
 
-/// The outcome of a whole transcript: for an accepted one the count of its
-/// records, for a bad record its number, otherwise 0.
+/// The outcome of a whole transcript. `record` is how many records an accepted
+/// one has, or which record is bad, and 0 for any other refusal.
 #[derive(Clone, Copy, Debug, PartialEq, Eq)]
 pub struct TranscriptOutcome {
     pub answer: Outcome,
@@ -145,7 +146,8 @@ impl Cluster {
         for read in Records::new(bytes) {
             record += 1;
             match read {
-                // "a refused step inside it doesn't stop the reading"
+                // Refused or accepted, the next record follows (document 01,
+                // 'Zero and the refusals').
                 Ok(step) => {
                     let outcome = step.run_checked(self);
                     show(record, &step, outcome, self);
@@ -160,7 +162,8 @@ impl Cluster {
         TranscriptOutcome { answer, record }
     }
 
-    /// "A transcript call tests 11, then 13, before any record is run."
+    /// Refusal 11, then 13, for the whole transcript (document 01, 'Zero and
+    /// the refusals').
     fn check_transcript(&self, bytes: &[u8]) -> Outcome {
         self.check_well_formed()?;
         if bytes.len() > TRANSCRIPT_LIMIT {

@@ -1,4 +1,4 @@
-//! The bounds of document 01: "A bench outside these bounds is malformed."
+//! Which clusters are well formed (document 01, 'What stands on the bench').
 
 use crate::answer::{Outcome, Refusal};
 use crate::model::{
@@ -32,7 +32,7 @@ impl LockState {
 }
 
 impl Agent {
-    /// "a queue of at most 16 waiters (client and mode, no client twice)".
+    /// The queue is short enough, and its clients are in range and distinct.
     fn is_well_formed(&self) -> bool {
         let mut seen = ClientSet::default();
         self.queue.len() <= QUEUE_CAPACITY
@@ -59,7 +59,7 @@ impl Packet {
             && self.has_allowed_mark()
     }
 
-    /// "FREE always carries one, GRANT sometimes, the others never."
+    /// An agent travels in every FREE and in some GRANTs, in nothing else.
     fn has_allowed_agent(&self) -> bool {
         match self.message {
             Message::Free => self.agent.is_some(),
@@ -68,8 +68,8 @@ impl Packet {
         }
     }
 
-    /// "A FREE, or a GRANT with agent, may be marked turned back, and is then
-    /// addressed to a machine; an unmarked FREE is addressed to the decider."
+    /// Only an agent is rejected, and the decider sends it to a machine; so a
+    /// FREE goes to the decider unless it is rejected.
     fn has_allowed_mark(&self) -> bool {
         if self.rejected {
             let kind = matches!(self.message, Message::Free | Message::Grant { .. });

@@ -52,7 +52,7 @@ fn release_of(number: u8) -> Message {
     }
 }
 
-/// Asserts an answer to a delivery of place 0 and that nothing changed.
+/// Asserts an answer to a delivery of index 0 and that nothing changed.
 fn refuses_delivery(mut cluster: Cluster, number: u8) {
     let given = cluster.clone();
     assert_eq!(deliver(&mut cluster, 0), number);
@@ -76,7 +76,7 @@ fn ranges_are_tested_in_order() {
 }
 
 #[test]
-fn statuses_and_places() {
+fn statuses_and_indexes() {
     let mut cluster = Cluster::new();
     assert_eq!(release(&mut cluster, 0, 0), 7);
     assert_eq!(deliver(&mut cluster, 0), 8);
@@ -284,7 +284,7 @@ fn drain_that_never_ends_is_refused() {
 }
 
 #[test]
-fn refusal_inside_a_drain_ends_it() {
+fn drain_stops_at_a_refused_step() {
     let packets = vec![
         plain(grant(ClientId(4), Mode::Shared), to(1)),
         plain(release_of(0), Address::Decider),
@@ -327,7 +327,8 @@ fn random_calls_keep_the_bounds() {
     }
 }
 
-/// "The drain starts from the bench after the list [...] and it answers 0."
+/// Whatever calls a fresh cluster has had, its drains are accepted and leave it
+/// quiescent (document 01, 'Runs, waits and holds').
 #[test]
 fn drain_after_any_list_of_calls_ends() {
     for seed in 1..=45 {

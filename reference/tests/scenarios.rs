@@ -1,4 +1,4 @@
-//! The drills D1 to D13 of document 01.
+//! The scenarios D1 to D13 (document 01, 'Drills').
 
 mod common;
 

@@ -16,7 +16,7 @@ pub use Rattle.parts.specs.Scans.{join-next, join-end, first-next, first-end}
 unfoldable pub use Rattle.model.specs.WellFormed.{shaped, isBlankWaiter, queueFormed, agentFormed, isBlankAgent, slotFormed, messageFormed, packetFormed, isBlankPacket, wireFormed, lockFormed, wellFormed}
 pub use Rattle.engine.specs.FormedLaws.{shaped-short, pass-whole, pass-far, pass-twice, pass-next, pass-end}
 unfoldable pub use Rattle.engine.specs.FormedLaws.{allNew}
-pub use Rattle.laws.specs.Kept.{release-formed, deliver-formed}
+pub use Rattle.laws.specs.FormedStep.{release-formed, deliver-formed}
 pub use Rattle.engine.specs.Names.{LockState, Stepped}
 pub use Rattle.laws.specs.Formed.{ready, lock-formed}
 pub use Rattle.engine.specs.Within.{lock-read}

@@ -14,7 +14,7 @@ use Rattle.model.specs.Lists.{any, all}
 use Rattle.model.specs.States.{clients}
 use Rattle.model.specs.WellFormed.{shaped, isClient, distinct, waiterInRange}
 use Rattle.laws.specs.Tests.{and-left, and-right, bool-cases}
-use Rattle.parts.specs.Scans.{opened, closed}
+use Rattle.parts.specs.Scans.{used-more, used-end}
 
 pub shaped-short : {A : Type 0} (n : ℕ) (p : A → Bool) (slots : List A) (len : ℕ) → shaped n p slots len ≡ true → len ≤ n
 unfolding shaped
@@ -83,16 +83,16 @@ pass-whole ws = rw (one-pass (replicate clients false) ws refl, all-unseen ws, a
 module _ (xs : List Waiter) (n j : ℕ) (d : Waiter) (k : n ≤ length xs) (seen : List Bool) where
   pub pass-far : j < n → clients ≤ getD xs j d .client .0 → allNew seen (drop j (take n xs)) ≡ false
   unfolding allNew
-  pass-far h q = rw (opened xs n j d k h, le-ltb (getD xs j d .client .0) clients q)
+  pass-far h q = rw (used-more xs n j d k h, le-ltb (getD xs j d .client .0) clients q)
 
   pub pass-twice : j < n → getD xs j d .client .0 < clients → getD seen (getD xs j d .client .0) false ≡ true → allNew seen (drop j (take n xs)) ≡ false
   unfolding allNew
-  pass-twice h q e = rw (opened xs n j d k h, lt-ltb (getD xs j d .client .0) clients q, e)
+  pass-twice h q e = rw (used-more xs n j d k h, lt-ltb (getD xs j d .client .0) clients q, e)
 
   pub pass-next : j < n → getD xs j d .client .0 < clients → getD seen (getD xs j d .client .0) false ≡ false → allNew (set seen (getD xs j d .client .0) true) (drop (j + 1) (take n xs)) ≡ allNew seen (drop j (take n xs))
   unfolding allNew
-  pass-next h q e = rw (opened xs n j d k h, lt-ltb (getD xs j d .client .0) clients q, e)
+  pass-next h q e = rw (used-more xs n j d k h, lt-ltb (getD xs j d .client .0) clients q, e)
 
   pub pass-end : n ≤ j → allNew seen (drop j (take n xs)) ≡ true
   unfolding allNew
-  pass-end h = rw (closed xs n j d k h)
+  pass-end h = rw (used-end xs n j d k h)

@@ -17,7 +17,7 @@ use Rattle.model.specs.Calls.{isHolding, releaseStep, deliverStep, settled, per
 use Rattle.model.specs.Drain.{allowance, Next, none, some, releaseFirst, nextOf, nextCall, Drainage, drainage, drainRefused, drainEnded, drainUnless, drain}
 use Rattle.laws.specs.Formed.{all-locks, parts, ready}
 use Rattle.laws.specs.Shapes.{length-packets}
-use Rattle.laws.specs.Opened.{stepOf}
+use Rattle.laws.specs.CallSteps.{stepOf}
 use Rattle.laws.specs.Clusters.{perform-formed}
 use Rattle.laws.specs.Next.{next-is, Goes, goes}
 use Rattle.engine.specs.declared.draining.Swept.{Swept}

@@ -18,7 +18,7 @@ use Rattle.model.specs.Refusals.{Cause, _when_, first}
 use Rattle.model.specs.Calls.{isIdle, isHolding, names, acquireStep, releaseStep, deliverStep, refusing, settled, unless, acquire, release, deliver, perform}
 use Rattle.laws.specs.Lists.{getD-any}
 use Rattle.laws.specs.Formed.{all-locks}
-use Rattle.laws.specs.Opened.{lockOf, stepOf, step-refused}
+use Rattle.laws.specs.CallSteps.{lockOf, stepOf, step-refused}
 use Rattle.laws.specs.Clusters.{perform-formed}
 use Rattle.rules.specs.declared.plan.Plan.{Plan}
 use Rattle.rules.specs.Plans.{carriedOut, Plans, plan-accepts, plan-refuses}

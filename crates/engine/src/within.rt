@@ -30,7 +30,7 @@ ghost use Rattle.model.specs.WellFormed.{lockFormed};
 ghost use Rattle.model.specs.Refusals.{first};
 ghost use Rattle.model.specs.Calls.{isIdle, isHolding};
 ghost use Rattle.laws.specs.Shapes.{CanonicalWire};
-ghost use Rattle.laws.specs.Opened.{lockOf};
+ghost use Rattle.laws.specs.CallSteps.{lockOf};
 ghost use Rattle.rules.specs.Plans.{Plans};
 ghost use Rattle.engine.specs.Within.{idleTests, acquireTests, holdingTests, releaseTests, acquireWithin, releaseWithin, deliverWithin, callWithin};
 

@@ -16,8 +16,8 @@ use Rattle.laws.specs.Tests.{and-right, both}
 use Rattle.laws.specs.Formed.{no-agent-formed, all-locks, lock-formed}
 use Rattle.laws.specs.Lists.{all-set, all-replicate}
 use Rattle.laws.specs.Making.{wire-formed}
-use Rattle.laws.specs.Kept.{acquire-formed, release-formed, deliver-formed}
-use Rattle.laws.specs.Opened.{lockOf, stepOf, outcomeOf, Allowed, may-acquire, may-release, may-deliver, Opened, denied, passed, opened, perform-elsewhere, perform-here}
+use Rattle.laws.specs.FormedStep.{acquire-formed, release-formed, deliver-formed}
+use Rattle.laws.specs.CallSteps.{lockOf, stepOf, outcomeOf, Allowed, may-acquire, may-release, may-deliver, CallCases, denied, passed, call-cases, perform-elsewhere, perform-here}
 
 pub fresh-lock-formed : lockFormed freshLock ≡ true
 unfolding lockFormed freshLock
@@ -41,21 +41,21 @@ settled-formed Accepted x l s w f =
 settled-formed (Refused r) x l s w f = w
 
 pub perform-formed : (c : Call) (x : Cluster) → wellFormed x ≡ true → wellFormed (perform c x .cluster) ≡ true
-perform-formed c x w = go (opened c x w)
+perform-formed c x w = go (call-cases c x w)
   where
-    go : Opened c x → wellFormed (perform c x .cluster) ≡ true
+    go : CallCases c x → wellFormed (perform c x .cluster) ≡ true
     go (denied r m n e) = rw e w
     go (passed h a e) = rw e (settled-formed _ x (lockOf c) _ w (step-formed c (lockIn x (lockOf c)) a (lock-formed x (lockOf c) w h)))
 
 -- A fact of a lock's state that each allowed step keeps is kept, of every lock, by each call.
 module _ (P : LockState → Type 0) (step : (c : Call) (s : LockState) → Allowed c s → lockFormed s ≡ true → P s → P (stepOf c s .state)) where
   pub perform-keeps : (c : Call) (x : Cluster) (j : LockId) → wellFormed x ≡ true → P (lockIn x j) → P (lockIn (perform c x .cluster) j)
-  perform-keeps c x j w p = go (opened c x w)
+  perform-keeps c x j w p = go (call-cases c x w)
     where
       here : lockOf c .0 < locks → Allowed c (lockIn x (lockOf c)) → perform c x ≡ outcomeOf c x → Dec (j .0 ≡ lockOf c .0) → P (lockIn (perform c x .cluster) j)
       here h a e (yes q) = rw (q, perform-here c x w h e) (step c (lockIn x (lockOf c)) a (lock-formed x (lockOf c) w h) (rw q at p))
       here h a e (no n) = rw (perform-elsewhere c x j n) p
 
-      go : Opened c x → P (lockIn (perform c x .cluster) j)
+      go : CallCases c x → P (lockIn (perform c x .cluster) j)
       go (denied r m n e) = rw e p
       go (passed h a e) = here h a e (ℕ-discrete (j .0) (lockOf c .0))

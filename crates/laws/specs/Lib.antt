@@ -6,7 +6,7 @@ pub mod Shapes
 pub mod Formed
 pub mod Making
 pub mod Parting
-pub mod Kept
-pub mod Opened
+pub mod FormedStep
+pub mod CallSteps
 pub mod Clusters
 pub mod Next

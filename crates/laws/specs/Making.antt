@@ -10,7 +10,7 @@ use lib.Dec.{eqb, leb}
 use borrow.Author.Tests.{eqb-false, ltb-true, lt-ltb, le-leb, eq-eqb, ne-eqb, not-true}
 use Rattle.model.specs.Lists.{any, all, padded}
 use Rattle.laws.specs.Names.{ClientId, Address, Message, Waiter, Queue, Agent, Packet}
-use Rattle.model.specs.States.{plain, blankWaiter, blankPacket, queueOf, waiters, wireOf, seated, noAgent, machineOf, machines, clients, queueCapacity, wireCapacity, carrying, resent}
+use Rattle.model.specs.States.{plain, blankWaiter, blankPacket, queueOf, waiters, wireOf, someAgent, noAgent, machineOf, machines, clients, queueCapacity, wireCapacity, carrying, resent}
 use Rattle.model.specs.WellFormed.{clientInRange, machineInRange, addressInRange, shaped, isBlankWaiter, isClient, distinct, waiterInRange, queueFormed, agentFormed, isBlankAgent, slotFormed, messageFormed, packetFormed, isBlankPacket, wireFormed}
 use Rattle.model.specs.Asking.{changed}
 use Rattle.laws.specs.Tests.{and-left, and-right, both, or-left, or-right}
@@ -95,9 +95,9 @@ module _ {ws : List Waiter} (l : Line ws) (w : Waiter) (h : waiterInRange w ≡ 
   line-front = record { short = omega arith; ranged = both (waiterInRange w) _ h (l .ranged); once = distinct-front w ws new (l .once) }
 
 -- ---- an agent
-pub seated-formed : {a : Agent} → Fit a → slotFormed (seated a) ≡ true
+pub some-agent-formed : {a : Agent} → Fit a → slotFormed (someAgent a) ≡ true
 unfolding slotFormed agentFormed
-seated-formed {a} f = both (eqb (length (a .holders)) clients) _ (eq-eqb _ clients (f .all-clients)) (f .queue)
+some-agent-formed {a} f = both (eqb (length (a .holders)) clients) _ (eq-eqb _ clients (f .all-clients)) (f .queue)
 
 -- one holder more or less
 pub fit-holder : {a : Agent} → Fit a → (i : ℕ) (b : Bool) (n : ℕ) → Fit (changed a (set (a .holders) i b) (a .queue) n)
@@ -114,7 +114,7 @@ unfolding noAgent
 plain-whole m t e h = record { message = e; address = h; carried = no-agent-formed }
 
 pub carrying-whole : {m : Message} {t : Address} {a : Agent} → messageFormed m true false t ≡ true → addressInRange t ≡ true → Fit a → Whole (carrying m t a)
-carrying-whole e h q = record { message = e; address = h; carried = seated-formed q }
+carrying-whole e h q = record { message = e; address = h; carried = some-agent-formed q }
 
 pub resent-whole : {p : Packet} {t : Address} {b : Bool} → Whole p → messageFormed (p .message) (p .carried .present) b t ≡ true → addressInRange t ≡ true → Whole (resent p t b)
 resent-whole w e h = record { message = e; address = h; carried = w .carried }

@@ -14,7 +14,7 @@ use Rattle.model.specs.Refusals.{first}
 use Rattle.model.specs.Calls.{isHolding, unless, release, deliver, perform}
 use Rattle.model.specs.Drain.{none, some, releaseFirst, nextOf, nextCall}
 use Rattle.laws.specs.Formed.{parts, lock-formed}
-use Rattle.laws.specs.Opened.{lockOf, outcomeOf, Allowed, may-release, may-deliver}
+use Rattle.laws.specs.CallSteps.{lockOf, outcomeOf, Allowed, may-release, may-deliver}
 
 -- what the drain does next to a lock's state
 pub data NextIs (l : LockId) (s : LockState) : Call → Type 0 where

@@ -6,7 +6,7 @@ use lib.ListN.{length, set}
 use lib.Dec.{leb}
 use Rattle.model.specs.Lists.{pick, any}
 use Rattle.model.specs.Names.{ClientId, Mode, Waiter, Queue, Agent, AgentSlot, ToDecider, Message, Free, Acquire, Grant, Release, Packet, Idle, Waiting, Holding, Site}
-use Rattle.model.specs.States.{queueCapacity, queueOf, waiters, seated, noAgent, listed, plain, carrying, isShared}
+use Rattle.model.specs.States.{queueCapacity, queueOf, waiters, someAgent, noAgent, listed, plain, carrying, isShared}
 use Rattle.model.specs.WellFormed.{isClient}
 use Rattle.model.specs.Changes.{Verdict, cannot-place, does, withSlot, withStatus}
 
@@ -36,15 +36,15 @@ mayJoin v m = isShared (v .slot .agent .mode) && isShared m
 -- **Acquire.** With an agent on the client's own machine: if agent and request are both shared, the client joins the holders and
 -- is holding at once; otherwise it joins the queue's end and is waiting. No packet is sent and no incarnation moves. With no such
 -- agent: an unmarked ACQUIRE to the decider is sent; the client is waiting. The Bool: the agent a is there.
-unfoldable pub asks : Site → ClientId → Mode → Bool → Agent → Verdict
-asks v c m true a =
+unfoldable pub clientAsks : Site → ClientId → Mode → Bool → Agent → Verdict
+clientAsks v c m true a =
     pick (mayJoin v m)
-    (does (withSlot (withStatus v (Holding m)) (seated (joining a c))) [])
-    (withRoom a c (does (withSlot (withStatus v (Waiting m)) (seated (queuing a c m))) []))
-asks v c m false a = does (withStatus v (Waiting m)) (plain (Acquire c m false) ToDecider ∷ [])
+    (does (withSlot (withStatus v (Holding m)) (someAgent (joining a c))) [])
+    (withRoom a c (does (withSlot (withStatus v (Waiting m)) (someAgent (queuing a c m))) []))
+clientAsks v c m false a = does (withStatus v (Waiting m)) (plain (Acquire c m false) ToDecider ∷ [])
 
-unfoldable pub acquires : Site → ClientId → Mode → Verdict
-acquires v c m = asks v c m (v .slot .present) (v .slot .agent)
+unfoldable pub clientAcquires : Site → ClientId → Mode → Verdict
+clientAcquires v c m = clientAsks v c m (v .slot .present) (v .slot .agent)
 
 -- **Leaves if empty.** If no holder remains, the agent is taken off its machine. With an empty queue it goes inside a FREE to the
 -- decider. Otherwise the first waiter is popped and the agent goes inside a GRANT for that waiter, to the decider.
@@ -63,7 +63,7 @@ handOver a hs (w ∷ ws) = departing (Grant (w .client) (w .mode)) a hs ws
 
 -- the agent, with the holders hs of whom one remains or none, stays or leaves
 unfoldable pub staysIf : Bool → Site → Agent → List Bool → Verdict
-staysIf true v a hs = does (withSlot v (seated (changed a hs (a .queue) (a .incarnation)))) []
+staysIf true v a hs = does (withSlot v (someAgent (changed a hs (a .queue) (a .incarnation)))) []
 staysIf false v a hs = does (withSlot v noAgent) (handOver a hs (waiters (a .queue)) ∷ [])
 
 -- the agent removes the holder and leaves if empty
@@ -75,8 +75,8 @@ leaves v a c = staysIf (anyHolder (without a c)) v a (without a c)
 abbrev pub lists : AgentSlot → ClientId → Bool
 lists x c = x .present && listed (x .agent) c
 
-unfoldable pub releases : Site → ClientId → Verdict
-releases v c =
+unfoldable pub clientReleases : Site → ClientId → Verdict
+clientReleases v c =
     pick (lists (v .slot) c)
     (leaves (withStatus v Idle) (v .slot .agent) c)
     (does (withStatus v Idle) (plain (Release c) ToDecider ∷ []))

@@ -4,7 +4,7 @@ use mathlib.Core.List.{List, [], _∷_, map}
 use lib.ListN.{set}
 use Rattle.model.specs.Lists.{pick}
 use Rattle.model.specs.Names.{ClientId, Mode, Shared, Waiter, Agent, AgentSlot, ToDecider, Message, Free, Acquire, Grant, Release, Packet, Holding, Site}
-use Rattle.model.specs.States.{queueOf, waiters, seated, plain, resent, isShared}
+use Rattle.model.specs.States.{queueOf, waiters, someAgent, plain, resent, isShared}
 use Rattle.model.specs.Changes.{Verdict, cannot-place, does, withSlot, withStatus}
 use Rattle.model.specs.Asking.{changed, joining, queuing, withRoom, mayJoin, leaves, lists}
 use Rattle.model.specs.AtDecider.{next}
@@ -48,7 +48,7 @@ installed m c a =
     }
 
 unfoldable pub installs : Site → ClientId → Mode → Agent → Verdict
-installs v c m a = does (withSlot (withStatus v (Holding m)) (seated (installed m c a))) (map grantOf (admitted m (waiters (a .queue))))
+installs v c m a = does (withSlot (withStatus v (Holding m)) (someAgent (installed m c a))) (map grantOf (admitted m (waiters (a .queue))))
 
 -- Turned-back GRANT: the carried agent is installed as carried, its client put at the queue's front.
 abbrev pub requeued : Agent → ClientId → Mode → Agent
@@ -56,17 +56,17 @@ requeued a c m = changed a (a .holders) (queueOf (record { client = c; mode = m 
 
 -- GRANT not turned back: its client is holding in its mode. At a machine that has an agent, another agent cannot be placed. The
 -- Bools: an agent is here, one is carried, rejected.
-unfoldable pub granted : Bool → Bool → Bool → Site → Agent → ClientId → Mode → Verdict
-granted here false rejected v a c m = does (withStatus v (Holding m)) []
-granted true true rejected v a c m = cannot-place
-granted false true false v a c m = installs v c m a
-granted false true true v a c m = withRoom a c (does (withSlot v (seated (requeued a c m))) [])
+unfoldable pub grantArrives : Bool → Bool → Bool → Site → Agent → ClientId → Mode → Verdict
+grantArrives here false rejected v a c m = does (withStatus v (Holding m)) []
+grantArrives true true rejected v a c m = cannot-place
+grantArrives false true false v a c m = installs v c m a
+grantArrives false true true v a c m = withRoom a c (does (withSlot v (someAgent (requeued a c m))) [])
 
 -- Marked ACQUIRE: the client joins the holders; the agent's incarnation plus one. At an exclusive agent it cannot be placed.
 unfoldable pub marked : Site → Agent → ClientId → Verdict
 marked v a c =
     pick (isShared (a .mode))
-    (does (withSlot v (seated (changed a (set (a .holders) (c .0) true) (a .queue) (next (a .incarnation))))) [])
+    (does (withSlot v (someAgent (changed a (set (a .holders) (c .0) true) (a .queue) (next (a .incarnation))))) [])
     cannot-place
 
 -- Unmarked ACQUIRE: if agent and request are both shared, the client joins the holders and a GRANT without agent for it goes to the
@@ -74,29 +74,29 @@ marked v a c =
 unfoldable pub unmarked : Site → Agent → ClientId → Mode → Verdict
 unmarked v a c m =
     pick (mayJoin v m)
-    (does (withSlot v (seated (joining a c))) (plain (Grant c m) ToDecider ∷ []))
-    (withRoom a c (does (withSlot v (seated (queuing a c m))) []))
+    (does (withSlot v (someAgent (joining a c))) (plain (Grant c m) ToDecider ∷ []))
+    (withRoom a c (does (withSlot v (someAgent (queuing a c m))) []))
 
 -- ACQUIRE with no agent here: sent back to the decider as it is. The first Bool: an agent is here; the second: marked granted.
-unfoldable pub acquired : Bool → Site → Agent → Packet → ClientId → Mode → Bool → Verdict
-acquired false v a p c m g = sendsBack v p
-acquired true v a p c m true = marked v a c
-acquired true v a p c m false = unmarked v a c m
+unfoldable pub acquireArrives : Bool → Site → Agent → Packet → ClientId → Mode → Bool → Verdict
+acquireArrives false v a p c m g = sendsBack v p
+acquireArrives true v a p c m true = marked v a c
+acquireArrives true v a p c m false = unmarked v a c m
 
 -- RELEASE of a listed holder: removed, then leaves if empty. Of anyone else, or with no agent here: sent back to the decider.
-unfoldable pub released : Site → Packet → ClientId → Verdict
-released v p c = pick (lists (v .slot) c) (leaves v (v .slot .agent) c) (sendsBack v p)
+unfoldable pub releaseArrives : Site → Packet → ClientId → Verdict
+releaseArrives v p c = pick (lists (v .slot) c) (leaves v (v .slot .agent) c) (sendsBack v p)
 
 -- Turned-back FREE: the carried agent is installed as carried. At a machine that has an agent, another agent cannot be placed.
-unfoldable pub returned : Bool → Site → AgentSlot → Verdict
-returned true v carried = cannot-place
-returned false v carried = does (withSlot v carried) []
+unfoldable pub freeArrives : Bool → Site → AgentSlot → Verdict
+freeArrives true v carried = cannot-place
+freeArrives false v carried = does (withSlot v carried) []
 
 unfoldable pub arrives : Message → Site → Packet → Verdict
-arrives (Acquire c m g) v p = acquired (v .slot .present) v (v .slot .agent) p c m g
-arrives (Grant c m) v p = granted (v .slot .present) (p .carried .present) (p .rejected) v (p .carried .agent) c m
-arrives (Release c) v p = released v p c
-arrives Free v p = returned (v .slot .present) v (p .carried)
+arrives (Acquire c m g) v p = acquireArrives (v .slot .present) v (v .slot .agent) p c m g
+arrives (Grant c m) v p = grantArrives (v .slot .present) (p .carried .present) (p .rejected) v (p .carried .agent) c m
+arrives (Release c) v p = releaseArrives v p c
+arrives Free v p = freeArrives (v .slot .present) v (p .carried)
 
 unfoldable pub atMachine : Site → Packet → Verdict
 atMachine v p = arrives (p .message) v p

@@ -9,7 +9,7 @@ use Rattle.model.specs.Names.{LockId, MachineId, TaskId, ClientId, Mode,
 use Rattle.model.specs.States.{locks, machines, tasks, clientOf, machineOf, modeOf, statusOf, packets, blankPacket, lockIn, fresh}
 use Rattle.model.specs.WellFormed.{wellFormed}
 use Rattle.model.specs.Changes.{siteOf, Verdict, finish}
-use Rattle.model.specs.Asking.{acquires, releases}
+use Rattle.model.specs.Asking.{clientAcquires, clientReleases}
 use Rattle.model.specs.AtDecider.{atDecider}
 use Rattle.model.specs.AtMachine.{atMachine}
 use Rattle.model.specs.Refusals.{Cause, _when_, first}
@@ -57,10 +57,10 @@ packetAt s i = getD (packets (s .wire)) i blankPacket
 
 -- The steps on one lock's state: the rules, with refusals 9 and 10. A client's own call is about its machine and itself.
 unfoldable pub acquireStep : LockState → ClientId → Mode → Stepped
-acquireStep s c m = finish (machineOf c) c (acquires (siteOf s (machineOf c) c) c m) (packets (s .wire)) s
+acquireStep s c m = finish (machineOf c) c (clientAcquires (siteOf s (machineOf c) c) c m) (packets (s .wire)) s
 
 unfoldable pub releaseStep : LockState → ClientId → Stepped
-releaseStep s c = finish (machineOf c) c (releases (siteOf s (machineOf c) c) c) (packets (s .wire)) s
+releaseStep s c = finish (machineOf c) c (clientReleases (siteOf s (machineOf c) c) c) (packets (s .wire)) s
 
 -- the packet p is taken off the wire, which keeps the rest
 unfoldable pub takes : LockState → Packet → List Packet → Stepped

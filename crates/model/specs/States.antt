@@ -64,8 +64,8 @@ noHolders = replicate clients false
 abbrev pub newAgent : Mode → Agent
 newAgent m = record { mode = m; holders = noHolders; queue = queueOf []; incarnation = 0 }
 
-abbrev pub seated : Agent → AgentSlot
-seated a = record { present = true; agent = a }
+abbrev pub someAgent : Agent → AgentSlot
+someAgent a = record { present = true; agent = a }
 
 unfoldable pub noAgent : AgentSlot
 noAgent = record { present = false; agent = newAgent Exclusive }
@@ -94,7 +94,7 @@ abbrev pub plain : Message → Address → Packet
 plain m t = record { message = m; to = t; rejected = false; carried = noAgent }
 
 abbrev pub carrying : Message → Address → Agent → Packet
-carrying m t a = record { message = m; to = t; rejected = false; carried = seated a }
+carrying m t a = record { message = m; to = t; rejected = false; carried = someAgent a }
 
 abbrev pub resent : Packet → Address → Bool → Packet
 resent p t b = record { message = p .message; to = t; rejected = b; carried = p .carried }

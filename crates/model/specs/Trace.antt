@@ -46,31 +46,31 @@ isGrantFor c (Acquire d m g) = false
 isGrantFor c (Release d) = false
 isGrantFor c Free = false
 
-abbrev pub grants : ClientId → Packet → Bool
-grants c p = toMachine (p .to) && (isGrantFor c (p .message) && not (p .rejected))
+abbrev pub showsGrant : ClientId → Packet → Bool
+showsGrant c p = toMachine (p .to) && (isGrantFor c (p .message) && not (p .rejected))
 
 -- It waits from its accepted acquire until it is shown a grant, then holds, in the mode it asked for, until its accepted release;
 -- otherwise it is idle.
-abbrev pub asked : Mode → Bool → View → View
-asked m true v = record { phase = Holding m; grants = v .grants + 1 }
-asked m false v = record { phase = Waiting m; grants = v .grants }
+abbrev pub afterAcquire : Mode → Bool → View → View
+afterAcquire m true v = record { phase = Holding m; grants = v .grants + 1 }
+afterAcquire m false v = record { phase = Waiting m; grants = v .grants }
 
-abbrev pub shownIn : Status → ℕ → View
-shownIn Idle n = record { phase = Idle; grants = n }
-shownIn (Waiting m) n = record { phase = Holding m; grants = n + 1 }
-shownIn (Holding m) n = record { phase = Holding m; grants = n + 1 }
+abbrev pub afterGrantIn : Status → ℕ → View
+afterGrantIn Idle n = record { phase = Idle; grants = n }
+afterGrantIn (Waiting m) n = record { phase = Holding m; grants = n + 1 }
+afterGrantIn (Holding m) n = record { phase = Holding m; grants = n + 1 }
 
-abbrev pub shown : View → View
-shown v = shownIn (v .phase) (v .grants)
+abbrev pub afterGrant : View → View
+afterGrant v = afterGrantIn (v .phase) (v .grants)
 
-abbrev pub handedBack : View → View
-handedBack v = record { phase = Idle; grants = v .grants }
+abbrev pub afterRelease : View → View
+afterRelease v = record { phase = Idle; grants = v .grants }
 
 -- the client's view of the lock after an accepted call on x that gave y
 unfoldable pub sees : LockId → ClientId → Call → Cluster → Cluster → View → View
-sees l c (AcquireCall k m t n) x y v = pick (sameLock l k && sameClient c (clientOf m t)) (asked (modeOf n) (joinsNow l c x y) v) v
-sees l c (ReleaseCall k m t) x y v = pick (sameLock l k && sameClient c (clientOf m t)) (handedBack v) v
-sees l c (DeliverCall k i) x y v = pick (sameLock l k && grants c (packetAt (lockIn x l) i)) (shown v) v
+sees l c (AcquireCall k m t n) x y v = pick (sameLock l k && sameClient c (clientOf m t)) (afterAcquire (modeOf n) (joinsNow l c x y) v) v
+sees l c (ReleaseCall k m t) x y v = pick (sameLock l k && sameClient c (clientOf m t)) (afterRelease v) v
+sees l c (DeliverCall k i) x y v = pick (sameLock l k && showsGrant c (packetAt (lockIn x l) i)) (afterGrant v) v
 
 unfoldable pub watch : LockId → ClientId → List Call → Cluster → View → View
 watch l c [] x v = v

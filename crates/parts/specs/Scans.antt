@@ -23,27 +23,27 @@ module _ {A : Type 0} where
 
   -- the first of what is left of the used part, and its end
   module _ (xs : List A) (n j : ℕ) (d : A) (k : n ≤ length xs) where
-    pub opened : j < n → drop j (take n xs) ≡ getD xs j d ∷ drop (j + 1) (take n xs)
-    opened h =
+    pub used-more : j < n → drop j (take n xs) ≡ getD xs j d ∷ drop (j + 1) (take n xs)
+    used-more h =
         let e : length (take n xs) ≡ n = length-take-le n xs k in
         let q : j < length (take n xs) = omega arith in
         rw (add-one, drop-cons (take n xs) j d q, getD-take)
 
-    pub closed : n ≤ j → drop j (take n xs) ≡ []
-    closed h =
+    pub used-end : n ≤ j → drop j (take n xs) ≡ []
+    used-end h =
         let e : length (take n xs) ≡ n = length-take-le n xs k in
         let q : length (take n xs) ≤ j = omega arith in
         drop-of-length-le (take n xs) q
 
   module _ (p : A → Bool) (xs : List A) (n j : ℕ) (d : A) (k : n ≤ length xs) where
     pub used-hit : j < n → p (getD xs j d) ≡ true → any p (drop j (take n xs)) ≡ true
-    used-hit h e = rw (opened xs n j d k h, e)
+    used-hit h e = rw (used-more xs n j d k h, e)
 
     pub used-miss : j < n → p (getD xs j d) ≡ false → any p (drop (j + 1) (take n xs)) ≡ any p (drop j (take n xs))
-    used-miss h e = rw (opened xs n j d k h, e)
+    used-miss h e = rw (used-more xs n j d k h, e)
 
     pub used-none : n ≤ j → any p (drop j (take n xs)) ≡ false
-    used-none h = rw (closed xs n j d k h)
+    used-none h = rw (used-end xs n j d k h)
 
   -- a loop over all of xs that joins a test of each: what was joined so far, with the test of all that are left, is the test of all
   module _ (p : A → Bool) (xs : List A) (ok : Bool) (j : ℕ) (d : A) where
@@ -56,7 +56,7 @@ module _ {A : Type 0} where
   -- and over the used part
   module _ (xs : List A) (n j : ℕ) (d : A) (k : n ≤ length xs) (p : A → Bool) (ok : Bool) where
     pub first-next : j < n → ((ok && p (getD xs j d)) && all p (drop (j + 1) (take n xs))) ≡ (ok && all p (drop j (take n xs)))
-    first-next h = rw (opened xs n j d k h) (and-assoc ok _ _)
+    first-next h = rw (used-more xs n j d k h) (and-assoc ok _ _)
 
     pub first-end : n ≤ j → (ok && all p (drop j (take n xs))) ≡ ok
-    first-end h = rw (closed xs n j d k h) (and-true ok)
+    first-end h = rw (used-end xs n j d k h) (and-true ok)

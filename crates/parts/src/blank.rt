@@ -14,7 +14,7 @@ use model::Queue;
 use model::Waiter;
 ghost use mathlib.Core.Path.{_≡_};
 ghost use mathlib.Core.List.{[]};
-ghost use Rattle.model.specs.States.{blankWaiter, queueOf, newAgent, seated, noAgent, plain, carrying, resent, blankPacket, unowned};
+ghost use Rattle.model.specs.States.{blankWaiter, queueOf, newAgent, someAgent, noAgent, plain, carrying, resent, blankPacket, unowned};
 
 pub fn blank_waiter() -> Waiter
     ensures { λ r. ⌜ r ≡ blankWaiter ⌝ }
@@ -47,8 +47,8 @@ pub fn new_agent(m: Mode) -> Agent
     }
 }
 
-pub fn seat(a: Agent) -> AgentSlot
-    ensures { λ r. ⌜ r ≡ seated a ⌝ }
+pub fn some_agent(a: Agent) -> AgentSlot
+    ensures { λ r. ⌜ r ≡ someAgent a ⌝ }
 {
     AgentSlot {
         present: true,
@@ -92,7 +92,7 @@ pub fn plain_packet(m: Message, t: Address) -> Packet
 pub fn carrying(m: Message, t: Address, a: Agent) -> Packet
     ensures { λ r. ⌜ r ≡ carrying m t a ⌝ }
 {
-    let x = seat(a);
+    let x = some_agent(a);
     Packet {
         message: m,
         to: t,

@@ -16,16 +16,16 @@ pub use Rattle.laws.specs.Lists.{length-removed}
 pub use Rattle.laws.specs.Shapes.{packets-of, waiters-of, length-packets, queue-whole}
 pub use Rattle.laws.specs.Parting.{none-leaves}
 pub use Rattle.parts.specs.Writes.{removed-none}
-pub use Rattle.parts.specs.Scans.{opened, closed}
+pub use Rattle.parts.specs.Scans.{used-more, used-end}
 unfoldable pub use Rattle.rules.specs.Effects.{sentBy, verdictOf}
 pub use Rattle.rules.specs.Effects.{sent-length, few-of-two, some-of-two, all-of-two, lays-none, lays-one, posted-both}
 pub use Rattle.rules.specs.Leaving.{hands-on, frees}
 pub use Rattle.rules.specs.Admits.{Room, admits, admits-none, admits-next, room-next, room-start, admits-start, room-left}
 unfoldable pub use Rattle.rules.specs.Admits.{admitsOne}
 pub use Rattle.rules.specs.Deciding.{marked-sent}
-unfoldable pub use Rattle.model.specs.Asking.{mayJoin, asks, acquires, staysIf, releases}
+unfoldable pub use Rattle.model.specs.Asking.{mayJoin, clientAsks, clientAcquires, staysIf, clientReleases}
 unfoldable pub use Rattle.model.specs.AtDecider.{toOwner, mayShare, decidesAcquire, decidesFree, decidesGrant, decides, atDecider}
-unfoldable pub use Rattle.model.specs.AtMachine.{joined, installs, granted, marked, unmarked, acquired, released, returned, arrives, atMachine}
+unfoldable pub use Rattle.model.specs.AtMachine.{joined, installs, grantArrives, marked, unmarked, acquireArrives, releaseArrives, freeArrives, arrives, atMachine}
 unfoldable pub use Rattle.model.specs.Calls.{delivers, acquireStep, releaseStep, takes, deliverStep}
 pub use Rattle.laws.specs.Tests.{pick-yes, pick-no}
 pub use Rattle.rules.specs.Plans.{finish-stuck, finish-full, plans-refusal, plans-effect, rest-fits}

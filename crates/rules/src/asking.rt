@@ -15,7 +15,7 @@ use model::Site;
 use model::Status;
 use model::Waiter;
 use parts::blank::plain_packet;
-use parts::blank::seat;
+use parts::blank::some_agent;
 use parts::holders::is_shared;
 use parts::holders::join;
 use parts::queue::no_room;
@@ -23,9 +23,9 @@ use parts::queue::push;
 ghost use mathlib.Core.Path.{_≡_};
 ghost use mathlib.Core.Bool.{true, false};
 ghost use mathlib.Core.List.{[]};
-ghost use Rattle.model.specs.States.{seated};
+ghost use Rattle.model.specs.States.{someAgent};
 ghost use Rattle.model.specs.Changes.{withSlot, does};
-ghost use Rattle.model.specs.Asking.{queuing, withRoom, mayJoin, asks, acquires};
+ghost use Rattle.model.specs.Asking.{queuing, withRoom, mayJoin, clientAsks, clientAcquires};
 ghost use Rattle.laws.specs.Shapes.{CanonicalQueue};
 ghost use Rattle.rules.specs.Effects.{verdictOf};
 
@@ -42,13 +42,13 @@ pub fn may_join(v: Site, m: Mode) -> bool
 // The client joins the end of the agent's queue.
 pub fn queue_last(v: Site, mut a: Agent, c: ClientId, m: Mode) -> Effect
     requires { ⌜ CanonicalQueue (a .queue) ⌝ }
-    ensures { λ r. ⌜ verdictOf r ≡ withRoom a c (does (withSlot v (seated (queuing a c m))) []) ⌝ }
+    ensures { λ r. ⌜ verdictOf r ≡ withRoom a c (does (withSlot v (someAgent (queuing a c m))) []) ⌝ }
 {
     if no_room(a, c) {
         cannot_place()
     } else {
         a.queue = push(a.queue, Waiter { client: c, mode: m });
-        let w = with_slot(v, seat(a));
+        let w = with_slot(v, some_agent(a));
         doing(w, no_packet())
     }
 }
@@ -56,10 +56,10 @@ pub fn queue_last(v: Site, mut a: Agent, c: ClientId, m: Mode) -> Effect
 // The agent a is on the client's machine.
 pub fn ask_agent(v: Site, a: Agent, c: ClientId, m: Mode) -> Effect
     requires { ⌜ CanonicalQueue (a .queue) ⌝ }
-    ensures { λ r. ⌜ verdictOf r ≡ asks v c m true a ⌝ }
+    ensures { λ r. ⌜ verdictOf r ≡ clientAsks v c m true a ⌝ }
 {
     if may_join(v, m) {
-        let x = seat(join(a, c));
+        let x = some_agent(join(a, c));
         let w = with_slot(with_status(v, Status::Holding(m)), x);
         doing(w, no_packet())
     } else {
@@ -69,7 +69,7 @@ pub fn ask_agent(v: Site, a: Agent, c: ClientId, m: Mode) -> Effect
 
 // No agent is on the client's machine.
 pub fn ask_decider(v: Site, c: ClientId, m: Mode) -> Effect
-    ensures { λ r. ⌜ ((a : Agent) → verdictOf r ≡ asks v c m false a) ⌝ }
+    ensures { λ r. ⌜ ((a : Agent) → verdictOf r ≡ clientAsks v c m false a) ⌝ }
 {
     let p = plain_packet(
         Message::Acquire {
@@ -85,7 +85,7 @@ pub fn ask_decider(v: Site, c: ClientId, m: Mode) -> Effect
 
 pub fn acquire(v: Site, c: ClientId, m: Mode) -> Effect
     requires { ⌜ CanonicalQueue (v .slot .agent .queue) ⌝ }
-    ensures { λ r. ⌜ verdictOf r ≡ acquires v c m ⌝ }
+    ensures { λ r. ⌜ verdictOf r ≡ clientAcquires v c m ⌝ }
 {
     let x = v.slot;
     if x.present {

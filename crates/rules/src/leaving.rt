@@ -20,7 +20,7 @@ use model::TASKS;
 use parts::blank::carrying;
 use parts::blank::no_agent;
 use parts::blank::plain_packet;
-use parts::blank::seat;
+use parts::blank::some_agent;
 use parts::holders::any_holder;
 use parts::holders::holds;
 use parts::holders::set_holder;
@@ -28,7 +28,7 @@ use parts::queue::first;
 use parts::queue::pop;
 ghost use mathlib.Core.Path.{_≡_};
 ghost use Rattle.model.specs.States.{waiters, machineOf};
-ghost use Rattle.model.specs.Asking.{handOver, leaves, lists, releases};
+ghost use Rattle.model.specs.Asking.{handOver, leaves, lists, clientReleases};
 ghost use Rattle.laws.specs.Shapes.{CanonicalQueue};
 ghost use Rattle.rules.specs.Effects.{verdictOf};
 
@@ -59,7 +59,7 @@ pub fn leave(v: Site, mut a: Agent, c: ClientId) -> Effect
     let g = set_holder(h, c, false);
     if any_holder(g) {
         a.holders = g;
-        let w = with_slot(v, seat(a));
+        let w = with_slot(v, some_agent(a));
         doing(w, no_packet())
     } else {
         let p = hand_over(a, g);
@@ -86,7 +86,7 @@ pub fn machine_of(c: ClientId) -> MachineId
 // A client that holds releases.
 pub fn release(v: Site, c: ClientId) -> Effect
     requires { ⌜ CanonicalQueue (v .slot .agent .queue) ⌝ }
-    ensures { λ r. ⌜ verdictOf r ≡ releases v c ⌝ }
+    ensures { λ r. ⌜ verdictOf r ≡ clientReleases v c ⌝ }
 {
     let x = v.slot;
     let w = with_status(v, Status::Idle);

@@ -28,7 +28,7 @@ use model::Waiter;
 use parts::blank::empty_queue;
 use parts::blank::plain_packet;
 use parts::blank::resent;
-use parts::blank::seat;
+use parts::blank::some_agent;
 use parts::holders::is_shared;
 use parts::holders::join;
 use parts::holders::set_holder;
@@ -39,10 +39,10 @@ ghost use mathlib.Core.Path.{_≡_};
 ghost use mathlib.Core.List.{[]};
 ghost use Prim.Native.Nat.{_≤_};
 ghost use lib.ListN.{take};
-ghost use Rattle.model.specs.States.{queueCapacity, waiters, seated};
+ghost use Rattle.model.specs.States.{queueCapacity, waiters, someAgent};
 ghost use Rattle.model.specs.Changes.{withSlot, does};
 ghost use Rattle.model.specs.Asking.{withRoom};
-ghost use Rattle.model.specs.AtMachine.{sentBack, installs, requeued, granted, marked, unmarked, acquired, released, returned, arrives, atMachine};
+ghost use Rattle.model.specs.AtMachine.{sentBack, installs, requeued, grantArrives, marked, unmarked, acquireArrives, releaseArrives, freeArrives, arrives, atMachine};
 ghost use Rattle.laws.specs.Shapes.{CanonicalQueue};
 ghost use Rattle.rules.specs.Names.{Exclusive, Shared};
 ghost use Rattle.rules.specs.Effects.{verdictOf};
@@ -121,7 +121,7 @@ pub fn install_shared(v: Site, c: ClientId, a: Agent) -> Effect
     };
     let t = grants_to(r.admitted);
     let st = Status::Holding(Mode::Shared);
-    doing(with_slot(with_status(v, st), seat(b)), t)
+    doing(with_slot(with_status(v, st), some_agent(b)), t)
 }
 
 pub fn install_exclusive(v: Site, c: ClientId, a: Agent) -> Effect
@@ -138,7 +138,7 @@ pub fn install_exclusive(v: Site, c: ClientId, a: Agent) -> Effect
         incarnation: a.incarnation,
     };
     let st = Status::Holding(Mode::Exclusive);
-    let w = with_slot(with_status(v, st), seat(b));
+    let w = with_slot(with_status(v, st), some_agent(b));
     doing(w, no_packet())
 }
 
@@ -155,13 +155,13 @@ pub fn install(v: Site, c: ClientId, m: Mode, a: Agent) -> Effect
 // The client goes back to the front of the agent's queue.
 pub fn queue_first(v: Site, mut a: Agent, c: ClientId, m: Mode) -> Effect
     requires { ⌜ CanonicalQueue (a .queue) ⌝ }
-    ensures { λ r. ⌜ verdictOf r ≡ withRoom a c (does (withSlot v (seated (requeued a c m))) []) ⌝ }
+    ensures { λ r. ⌜ verdictOf r ≡ withRoom a c (does (withSlot v (someAgent (requeued a c m))) []) ⌝ }
 {
     if no_room(a, c) {
         cannot_place()
     } else {
         a.queue = push_front(a.queue, Waiter { client: c, mode: m });
-        let w = with_slot(v, seat(a));
+        let w = with_slot(v, some_agent(a));
         doing(w, no_packet())
     }
 }
@@ -183,7 +183,7 @@ pub fn grant_arrives(
     m: Mode,
 ) -> Effect
     requires { ⌜ CanonicalQueue (x .agent .queue) ⌝ }
-    ensures { λ r. ⌜ verdictOf r ≡ granted here (x .present) rejected v (x .agent) c m ⌝ }
+    ensures { λ r. ⌜ verdictOf r ≡ grantArrives here (x .present) rejected v (x .agent) c m ⌝ }
 {
     if x.present {
         if here {
@@ -207,7 +207,7 @@ pub fn marked_arrives(v: Site, a: Agent, c: ClientId) -> Effect
     if is_shared(m) {
         let mut b = join(a, c);
         b.incarnation = std::num::wrapping_add_u8(a.incarnation, 1);
-        let w = with_slot(v, seat(b));
+        let w = with_slot(v, some_agent(b));
         doing(w, no_packet())
     } else {
         cannot_place()
@@ -219,7 +219,7 @@ pub fn unmarked_arrives(v: Site, a: Agent, c: ClientId, m: Mode) -> Effect
     ensures { λ r. ⌜ verdictOf r ≡ unmarked v a c m ⌝ }
 {
     if may_join(v, m) {
-        let x = seat(join(a, c));
+        let x = some_agent(join(a, c));
         let p = plain_packet(Message::Grant { client: c, mode: m }, Address::Decider);
         let w = with_slot(v, x);
         doing(w, one_packet(p))
@@ -230,7 +230,7 @@ pub fn unmarked_arrives(v: Site, a: Agent, c: ClientId, m: Mode) -> Effect
 
 pub fn acquire_arrives(v: Site, p: Packet, c: ClientId, m: Mode, granted: bool) -> Effect
     requires { ⌜ CanonicalQueue (v .slot .agent .queue) ⌝ }
-    ensures { λ r. ⌜ verdictOf r ≡ acquired (v .slot .present) v (v .slot .agent) p c m granted ⌝ }
+    ensures { λ r. ⌜ verdictOf r ≡ acquireArrives (v .slot .present) v (v .slot .agent) p c m granted ⌝ }
 {
     let x = v.slot;
     if x.present {
@@ -246,7 +246,7 @@ pub fn acquire_arrives(v: Site, p: Packet, c: ClientId, m: Mode, granted: bool) 
 
 pub fn release_arrives(v: Site, p: Packet, c: ClientId) -> Effect
     requires { ⌜ CanonicalQueue (v .slot .agent .queue) ⌝ }
-    ensures { λ r. ⌜ verdictOf r ≡ released v p c ⌝ }
+    ensures { λ r. ⌜ verdictOf r ≡ releaseArrives v p c ⌝ }
 {
     let x = v.slot;
     if listed(x, c) {
@@ -258,7 +258,7 @@ pub fn release_arrives(v: Site, p: Packet, c: ClientId) -> Effect
 
 // A rejected FREE: the carried agent x is installed as carried.
 pub fn free_arrives(v: Site, here: bool, x: AgentSlot) -> Effect
-    ensures { λ r. ⌜ verdictOf r ≡ returned here v x ⌝ }
+    ensures { λ r. ⌜ verdictOf r ≡ freeArrives here v x ⌝ }
 {
     if here {
         cannot_place()

@@ -3,7 +3,7 @@ use Rattle.theorems.specs.Names.{MachineId, ClientId, Mode, Exclusive, S
 use Rattle.theorems.specs.Tally.{flag, tally, tally-at, tally-le, tally-none, tally-add, sumTo, sum-swap, sum-le, sum-one}
 use Rattle.theorems.specs.Weights.{statusAt, slotAt, weight, one, askM, queuedS, waitingP, markM, listedS, listedP, owedM, owedP, releaseM, releaseP, agentS, agentP, incarnationS, incarnationP, markAll, markP, rejectedP, vacantS, holdF, ownedF, clash, farM, farP, farF, ownedMode, misfitS, fitsAway, fitsFree, inRange, fits, fitsP, misfitP}
 use Rattle.theorems.specs.Invariant.{Inv}
-use Rattle.theorems.specs.Keep.{Keeps, Split, keep-step, told, untold, keep-calm, vacancy-by, Still, still, keep-resent, framed}
+use Rattle.theorems.specs.InvariantStep.{Keeps, Split, keep-step, told, untold, keep-calm, vacancy-by, Still, still, keep-resent, framed}
 use Rattle.theorems.specs.Facts.{fit, Zero, absent, nobody, came-fits, near-owner, near-home, named-of, Plain, Request, acquire-of, release-of, plain-request, Away, away-of, away-fits, absent-of, silent-free, silent-equal, free-inc, same-mode, no-others, differ}
 use Rattle.theorems.specs.Sent.{Good, good-by, may-share, plain-any, request-any, no-marked, no-release, no-free, no-offer, no-freed, impossible, keep-on}
 
@@ -70,9 +70,9 @@ module _ (r : LockState) (p : Packet) (rest : List Packet) (i : Inv r) (sp : Spl
   unfolding weight tally
   none-here = omega (arith, all, i .agent, sp .parts agentP)
 
-  none-seated : tally agentS (r .agents) ≡ 0
+  no-agent-on-any : tally agentS (r .agents) ≡ 0
   unfolding weight tally
-  none-seated = omega (arith, all, i .agent, sp .parts agentP)
+  no-agent-on-any = omega (arith, all, i .agent, sp .parts agentP)
 
   rest-silent : tally markP rest ≡ 0
   unfolding tally
@@ -85,7 +85,7 @@ module _ (r : LockState) (p : Packet) (rest : List Packet) (i : Inv r) (sp : Spl
       (omega (arith, tally-add markP agentP rest, rest-silent, none-here))
 
   listed-none : (d : ℕ) → tally (listedS d) (r .agents) ≡ 0
-  listed-none d = tally-none agentS (listedS d) (λ s e. absent s (absent-of s e) .listedS d) (r .agents) none-seated
+  listed-none d = tally-none agentS (listedS d) (λ s e. absent s (absent-of s e) .listedS d) (r .agents) no-agent-on-any
 
   owes-none : (d : ℕ) → holdF (statusAt r d) + tally (owedP d) (packets (r .wire)) ≡ 0
   unfolding weight tally
@@ -128,13 +128,13 @@ module _ (r : LockState) (p : Packet) (rest : List Packet) (i : Inv r) (sp : Spl
   pub any-mode : (o : Owner) (d : ℕ) → clash o (statusAt r d) ≡ 0
   any-mode o d = no-clash o (statusAt r d) (omega (arith, owes-none d))
 
-  any-seat : (o : Owner) (k : ℕ) → misfitS o k (slotAt r k) ≡ 0
+  any-slot : (o : Owner) (k : ℕ) → misfitS o k (slotAt r k) ≡ 0
   unfolding misfitS noAgent
-  any-seat o k = rw (absent-of (slotAt r k) (seat-none (ltb k machines) refl))
+  any-slot o k = rw (absent-of (slotAt r k) (slot-none (ltb k machines) refl))
     where
-      seat-none : (b : Bool) → ltb k machines ≡ b → agentS (slotAt r k) ≡ 0
-      seat-none true q = omega (arith, none-seated, tally-at agentS noAgent (r .agents) k (omega (arith, i .all-machines, ltb-true k machines q)))
-      seat-none false q = let l : length (r .agents) ≤ k = omega (arith, i .all-machines, ltb-false k machines q) in rw (List·getD-eq-default (r .agents) noAgent l) (unfold agentS in refl)
+      slot-none : (b : Bool) → ltb k machines ≡ b → agentS (slotAt r k) ≡ 0
+      slot-none true q = omega (arith, no-agent-on-any, tally-at agentS noAgent (r .agents) k (omega (arith, i .all-machines, ltb-true k machines q)))
+      slot-none false q = let l : length (r .agents) ≤ k = omega (arith, i .all-machines, ltb-false k machines q) in rw (List·getD-eq-default (r .agents) noAgent l) (unfold agentS in refl)
 
   none-rejected : tally rejectedP rest + tally vacantS (r .agents) ≡ 0
   unfolding weight tally
@@ -162,7 +162,7 @@ module _ (r : LockState) (p : Packet) (rest : List Packet) (i : Inv r) (sp : Spl
       (record {
         split = sp;
         machine = jj;
-        seat = refl;
+        was = refl;
         waits = λ c m. rw (same c) (omega (arith, l .waits c m));
         holds = λ c. rw (same c) (omega (arith, l .lists c, l .owes c, p-lists c, owes-none c, sp .parts (owedP c)));
         rels = λ c. rw (same c) (omega (arith, l .rels c, i .rels c, sp .parts (releaseP c)));
@@ -170,7 +170,7 @@ module _ (r : LockState) (p : Packet) (rest : List Packet) (i : Inv r) (sp : Spl
         incs = λ x h. omega (arith, l .marks, l .incs (x + incarnationS (slotAt r (j .0))) (omega (arith, silent, sp .parts markP)));
         modes = λ c. rw (same c) (any-mode (d .owner) c);
         fitting = omega (arith, any-fits (d .owner), l .fitting);
-        homes = λ k. rw (set-getD (r .agents) (j .0) noAgent) (any-seat (d .owner) k);
+        homes = λ k. rw (set-getD (r .agents) (j .0) noAgent) (any-slot (d .owner) k);
         reach = l .reach;
         vacancy = rw (set-getD (r .agents) (j .0) noAgent) (omega (arith, none-rejected, l .unrejected));
       })

@@ -1,10 +1,10 @@
 -- Every step at a machine can be placed and keeps the invariant.
-use Rattle.theorems.specs.Names.{MachineId, ClientId, Mode, Exclusive, Shared, Owner, Unowned, Owned, Queue, Agent, AgentSlot, Address, ToDecider, ToMachine, Message, Free, Acquire, Grant, Release, Packet, Waiting, Holding, LockState, _≡_, refl, Bool, true, false, _&&_, not, List, [], _∷_, _++_, ℕ, _+_, _≤_, _<_, _%_, arith, length, getD, set, eqb, ltb, ne-eqb, ltb-true, isShared, seated, listed, plain, queueOf, waiters, noAgent, cannot-place, does, Site, siteOf, withSlot, withStatus, changed, joining, queuing, noRoom, withRoom, mayJoin, lists, leaves, next, sendsBack, requeued, installs, granted, marked, unmarked, acquired, released, returned, arrives, clientNamed, and-left, and-right, waiters-of, sym, _∙_, true≢false, machines, clients, ownedShared, both, slotIn, inParts}
+use Rattle.theorems.specs.Names.{MachineId, ClientId, Mode, Exclusive, Shared, Owner, Unowned, Owned, Queue, Agent, AgentSlot, Address, ToDecider, ToMachine, Message, Free, Acquire, Grant, Release, Packet, Waiting, Holding, LockState, _≡_, refl, Bool, true, false, _&&_, not, List, [], _∷_, _++_, ℕ, _+_, _≤_, _<_, _%_, arith, length, getD, set, eqb, ltb, ne-eqb, ltb-true, isShared, someAgent, listed, plain, queueOf, waiters, noAgent, cannot-place, does, Site, siteOf, withSlot, withStatus, changed, joining, queuing, noRoom, withRoom, mayJoin, lists, leaves, next, sendsBack, requeued, installs, grantArrives, marked, unmarked, acquireArrives, releaseArrives, freeArrives, arrives, clientNamed, and-left, and-right, waiters-of, sym, _∙_, true≢false, machines, clients, ownedShared, both, slotIn, inParts}
 use Rattle.theorems.specs.Tally.{flag, tally, tally-append, tally-at}
 use Rattle.theorems.specs.Weights.{statusAt, slotAt, weight, sameMode, one, hit, hitW, askM, queuedS, waitingP, markM, listedS, listedP, owedM, releaseM, releaseP, agentS, agentP, incarnationS, markAll, rejectedP, heads, vacantS, waitF, holdF, idleF, clash, ownedMode, ownedAt, few, fitsAway, fitsFree, fits, misfitP}
 use Rattle.theorems.specs.Invariant.{Inv}
-use Rattle.theorems.specs.Keep.{Keeps, Split, untold, keep, keep-calm, vacancy-by, framed, still}
-use Rattle.theorems.specs.Facts.{fit, Zero, absent, list-on, came-fits, Plain, Request, acquire-of, release-of, plain-request, Away, away-of, Home, home-fits, seat-home, few-less, status-move, in-slot, clash-none, shared-owner, none-away, none-rejected, none-vacant, one-self, lists-one, asker-unlisted, joins-fits, joins-heads, few-zero, flag-le, drop-last, grant-waits, unshared}
+use Rattle.theorems.specs.InvariantStep.{Keeps, Split, untold, keep, keep-calm, vacancy-by, framed, still}
+use Rattle.theorems.specs.Facts.{fit, Zero, absent, list-on, came-fits, Plain, Request, acquire-of, release-of, plain-request, Away, away-of, Home, home-fits, slot-home, few-less, status-move, in-slot, clash-none, shared-owner, none-away, none-rejected, none-vacant, one-self, lists-one, asker-unlisted, joins-fits, joins-heads, few-zero, flag-le, drop-last, grant-waits, unshared}
 use Rattle.theorems.specs.Sent.{Good, good-by, may-join, request-any, no-marked, no-free, no-early, impossible, keep-on, shared-is}
 use Rattle.theorems.specs.Waiters.{room-waiting}
 use Rattle.theorems.specs.Leaving.{Leaver, keep-leaves}
@@ -53,18 +53,18 @@ module _ (r : LockState) (rest : List Packet) (i : Inv r) (k : MachineId) (kk : 
       })
 
 -- ---- an ACQUIRE comes to the machine with the agent
-module _ (r : LockState) (rest : List Packet) (i : Inv r) (k : MachineId) (kk : k .0 < machines) (h : Agent) (es : slotAt r (k .0) ≡ seated h)
+module _ (r : LockState) (rest : List Packet) (i : Inv r) (k : MachineId) (kk : k .0 < machines) (h : Agent) (es : slotAt r (k .0) ≡ someAgent h)
     (c : ClientId) (n : Mode) (p : Packet) (b x : Bool) where
   -- the Bool: marked
   abbrev asking : Bool → Packet
   asking g = inParts (Acquire c n g) (ToMachine k) b x p
 
   home : Home (r .decider .owner) (k .0) h
-  home = seat-home r (k .0) h i es
+  home = slot-home r (k .0) h i es
 
   -- a marked one
   keep-marked : h .mode ≡ Shared → Split r (asking true ∷ []) rest
-      → Keeps r k c rest (withSlot (siteOf r k c) (seated (changed h (set (h .holders) (c .0) true) (h .queue) (next (h .incarnation))))) []
+      → Keeps r k c rest (withSlot (siteOf r k c) (someAgent (changed h (set (h .holders) (c .0) true) (h .queue) (next (h .incarnation))))) []
   unfolding tally askM markM owedM releaseM markAll queuedS listedS agentS incarnationS vacantS one weight
   keep-marked sh sp =
       let pl : Plain c (slotIn x p) = plain-request i acquire-of sp in
@@ -90,20 +90,20 @@ module _ (r : LockState) (rest : List Packet) (i : Inv r) (k : MachineId) (kk : 
               arith,
               none-rejected r i (k .0) kk h es,
               sp .parts rejectedP,
-              none-vacant r i (k .0) kk h es (seated (changed h (set (h .holders) (c .0) true) (h .queue) (next (h .incarnation))))
+              none-vacant r i (k .0) kk h es (someAgent (changed h (set (h .holders) (c .0) true) (h .queue) (next (h .incarnation))))
                   (rw (ne-eqb _ 0 (joins-heads (h .holders) (c .0) cl))) refl,
             );
       })
 
   -- an unmarked one, agent and request both shared
   keep-joins : h .mode ≡ Shared → n ≡ Shared → Split r (asking false ∷ []) rest
-      → Keeps r k c rest (withSlot (siteOf r k c) (seated (joining h c))) (plain (Grant c n) ToDecider ∷ [])
+      → Keeps r k c rest (withSlot (siteOf r k c) (someAgent (joining h c))) (plain (Grant c n) ToDecider ∷ [])
   unfolding tally askM markM owedM releaseM markAll queuedS listedS agentS incarnationS vacantS one misfitP fits noAgent
   keep-joins sh ns sp =
       let pl : Plain c (slotIn x p) = plain-request i acquire-of sp in
       let z : Zero (slotIn x p) = pl .none in
       let cl : c .0 < length (h .holders) = omega (arith, home .sized, pl .below) in
-      let un : flag (getD (h .holders) (c .0) false) ≡ 0 = omega (arith, asker-unlisted _ i refl sp, in-slot r (listedP (c .0)) (listedS (c .0)) (k .0) (seated h) i kk es) in
+      let un : flag (getD (h .holders) (c .0) false) ≡ 0 = omega (arith, asker-unlisted _ i refl sp, in-slot r (listedP (c .0)) (listedS (c .0)) (k .0) (someAgent h) i kk es) in
       let os : ownedShared (r .decider .owner) ≡ true = shared-owner (r .decider .owner) (rw sh at (home .mode)) in
       keep-calm i
       (record {
@@ -118,7 +118,7 @@ module _ (r : LockState) (rest : List Packet) (i : Inv r) (k : MachineId) (kk : 
         slot = home-fits (r .decider .owner) (k .0) _ (joins-fits h (r .decider .owner) (k .0) (c .0) _ home sh (home .small));
         reach = refl;
         vacancy =
-            vacancy-by (seated (joining h c)) (plain (Grant c n) ToDecider ∷ []) i sp kk es
+            vacancy-by (someAgent (joining h c)) (plain (Grant c n) ToDecider ∷ []) i sp kk es
             (rw (ne-eqb (tally flag (set (h .holders) (c .0) true)) 0 (joins-heads (h .holders) (c .0) cl)) (omega arith));
       })
 
@@ -132,7 +132,7 @@ module _ (r : LockState) (rest : List Packet) (i : Inv r) (k : MachineId) (kk : 
           unfold weight tally askM queuedS in
           omega (arith, i .waits d m, sp .parts (waitingP d m), rw es at (tally-at (queuedS d m) noAgent (r .agents) (k .0) (omega (arith, i .all-machines))))
 
-  keep-queues : Split r (asking false ∷ []) rest → Keeps r k c rest (withSlot (siteOf r k c) (seated (queuing h c n))) []
+  keep-queues : Split r (asking false ∷ []) rest → Keeps r k c rest (withSlot (siteOf r k c) (someAgent (queuing h c n))) []
   unfolding tally askM markM owedM releaseM markAll queuedS listedS agentS incarnationS vacantS one
   keep-queues sp =
       let pl : Plain c (slotIn x p) = plain-request i acquire-of sp in
@@ -151,12 +151,12 @@ module _ (r : LockState) (rest : List Packet) (i : Inv r) (k : MachineId) (kk : 
         fitting = refl;
         slot = home-fits (r .decider .owner) (k .0) _ (record { at = home .at; mode = home .mode; sized = home .sized; few = home .few; small = home .small });
         reach = refl;
-        vacancy = vacancy-by (seated (queuing h c n)) [] i sp kk es (omega arith);
+        vacancy = vacancy-by (someAgent (queuing h c n)) [] i sp kk es (omega arith);
       })
 
-  good-queues : Split r (asking false ∷ []) rest → Good r k c rest (withRoom h c (does (withSlot (siteOf r k c) (seated (queuing h c n))) []))
+  good-queues : Split r (asking false ∷ []) rest → Good r k c rest (withRoom h c (does (withSlot (siteOf r k c) (someAgent (queuing h c n))) []))
   good-queues sp =
-      good-by r k c rest (noRoom h c) cannot-place (does (withSlot (siteOf r k c) (seated (queuing h c n))) []) (λ q. true≢false (sym q ∙ asker-room sp)) (λ q. keep-queues sp)
+      good-by r k c rest (noRoom h c) cannot-place (does (withSlot (siteOf r k c) (someAgent (queuing h c n))) []) (λ q. true≢false (sym q ∙ asker-room sp)) (λ q. keep-queues sp)
 
 -- ---- a rejected packet comes home: the agent is installed, q its queue
 module _ (r : LockState) (rest : List Packet) (i : Inv r) (k : MachineId) (kk : k .0 < machines) (old : AgentSlot) (es : slotAt r (k .0) ≡ old) (ab : old .present ≡ false) (p : Packet) where
@@ -170,7 +170,7 @@ module _ (r : LockState) (rest : List Packet) (i : Inv r) (k : MachineId) (kk : 
       → ((d : ℕ) (n : Mode) → askM d n m + tally (hitW d n) (waiters (a .queue)) ≡ tally (hitW d n) (waiters q))
       → ((d : ℕ) → (markM d m ≡ 0) × (owedM d true m ≡ 0)) → markAll m ≡ 0
       → (ownedAt (r .decider .owner) (k .0) && (ownedMode (r .decider .owner) (a .mode) && fitsAway a)) ≡ true
-      → Keeps r k u rest (withSlot (siteOf r k u) (seated (changed a (a .holders) q (a .incarnation)))) []
+      → Keeps r k u rest (withSlot (siteOf r k u) (someAgent (changed a (a .holders) q (a .incarnation)))) []
   unfolding tally queuedS listedS agentS incarnationS vacantS
   back-home u m q sp ask no-m ma f =
       let z : Zero old = absent old ab in
@@ -196,10 +196,10 @@ module _ (r : LockState) (rest : List Packet) (i : Inv r) (k : MachineId) (kk : 
               small = aw .small;
             });
         reach = refl;
-        vacancy = vacancy-by (seated (changed a (a .holders) q (a .incarnation))) [] i sp kk es (omega (arith, z .vacantS, ma, flag-le (eqb (heads a) 0)));
+        vacancy = vacancy-by (someAgent (changed a (a .holders) q (a .incarnation))) [] i sp kk es (omega (arith, z .vacantS, ma, flag-le (eqb (heads a) 0)));
       })
 
-  keep-free-back : (u : ClientId) → Split r (returns Free ∷ []) rest → Keeps r k u rest (withSlot (siteOf r k u) (seated a)) []
+  keep-free-back : (u : ClientId) → Split r (returns Free ∷ []) rest → Keeps r k u rest (withSlot (siteOf r k u) (someAgent a)) []
   unfolding tally askM markM owedM markAll misfitP fits fitsFree
   keep-free-back u sp =
       let f : (ownedAt (r .decider .owner) (k .0) && (ownedMode (r .decider .owner) (a .mode) && (fitsAway a && eqb (a .queue .len) 0))) ≡ true = fit _ (came-fits r rest _ i sp) in
@@ -210,7 +210,7 @@ module _ (r : LockState) (rest : List Packet) (i : Inv r) (k : MachineId) (kk : 
     unfolding misfitP fits
     back-fits = fit _ (came-fits r rest _ i sp)
 
-    keep-grant-back : Keeps r k c rest (withSlot (siteOf r k c) (seated (requeued a c n))) []
+    keep-grant-back : Keeps r k c rest (withSlot (siteOf r k c) (someAgent (requeued a c n))) []
     unfolding tally askM markM owedM markAll
     keep-grant-back =
         back-home c (Grant c n) (queueOf (record { client = c; mode = n } ∷ waiters (a .queue))) sp (λ d m. rw (waiters-of (record { client = c; mode = n } ∷ waiters (a .queue)))) (λ d. (refl, refl)) refl
@@ -222,9 +222,9 @@ module _ (r : LockState) (rest : List Packet) (i : Inv r) (k : MachineId) (kk : 
         in-line : (d : ℕ) (m : Mode) → hit d m c n + tally (hitW d m) (waiters (a .queue)) ≤ waitF m (statusAt r d)
         in-line d m = unfold weight tally askM queuedS in omega (arith, i .waits d m, sp .parts (waitingP d m))
 
-    good-grant-back : Good r k c rest (withRoom a c (does (withSlot (siteOf r k c) (seated (requeued a c n))) []))
+    good-grant-back : Good r k c rest (withRoom a c (does (withSlot (siteOf r k c) (someAgent (requeued a c n))) []))
     good-grant-back =
-        good-by r k c rest (noRoom a c) cannot-place (does (withSlot (siteOf r k c) (seated (requeued a c n))) []) (λ q. true≢false (sym q ∙ back-room)) (λ q. keep-grant-back)
+        good-by r k c rest (noRoom a c) cannot-place (does (withSlot (siteOf r k c) (someAgent (requeued a c n))) []) (λ q. true≢false (sym q ∙ back-room)) (λ q. keep-grant-back)
 
 -- ---- a RELEASE comes to the machine whose agent lists the client
 release-leaves : (r : LockState) (rest : List Packet) (i : Inv r) (c : ClientId) (p : Packet) (t : Address) (b x : Bool)
@@ -251,7 +251,7 @@ module _ (r : LockState) (rest : List Packet) (i : Inv r) (k : MachineId) (kk : 
   came m b x = inParts m (ToMachine k) b x p
 
   -- an agent on the machine and one in the packet
-  two : {A : Type 0} {q : Packet} → Split r (q ∷ []) rest → slotAt r (k .0) ≡ seated h → agentP q ≡ 1 → A
+  two : {A : Type 0} {q : Packet} → Split r (q ∷ []) rest → slotAt r (k .0) ≡ someAgent h → agentP q ≡ 1 → A
   unfolding tally
   two sp es e = absurd (omega (arith, none-away r i (k .0) kk h es, sp .parts agentP, e))
 
@@ -264,31 +264,31 @@ module _ (r : LockState) (rest : List Packet) (i : Inv r) (k : MachineId) (kk : 
       → Good r k c rest (sendsBack (seen y c) (came m b x))
   good-back c y b x q es sp = keep-on i (still es) kk _ _ refl refl refl (λ o. request-any _ _ b _ o x q) refl sp
 
-  good-acquired : (y : Bool) (c : ClientId) (n : Mode) (g b x : Bool) → slotAt r (k .0) ≡ record { present = y; agent = h }
-      → Split r (came (Acquire c n g) b x ∷ []) rest → Good r k c rest (acquired y (seen y c) h (came (Acquire c n g) b x) c n g)
-  unfolding acquired marked unmarked
-  good-acquired false c n g b x es sp = good-back c false b x acquire-of es sp
-  good-acquired true c n true b x es sp =
+  good-acquire-arrives : (y : Bool) (c : ClientId) (n : Mode) (g b x : Bool) → slotAt r (k .0) ≡ record { present = y; agent = h }
+      → Split r (came (Acquire c n g) b x ∷ []) rest → Good r k c rest (acquireArrives y (seen y c) h (came (Acquire c n g) b x) c n g)
+  unfolding acquireArrives marked unmarked
+  good-acquire-arrives false c n g b x es sp = good-back c false b x acquire-of es sp
+  good-acquire-arrives true c n true b x es sp =
       good-by r k c rest (isShared (h .mode)) _ cannot-place (λ q. keep-marked r rest i k kk h es c n p b x (shared-is (h .mode) q) sp)
-      (λ q. impossible i sp (no-marked x (ToMachine k) b _ c n _ (unshared (r .decider .owner) (h .mode) q (seat-home r (k .0) h i es .mode))))
-  good-acquired true c n false b x es sp =
-      good-by r k c rest (mayJoin (seen true c) n) _ (withRoom h c (does (withSlot (siteOf r k c) (seated (queuing h c n))) []))
+      (λ q. impossible i sp (no-marked x (ToMachine k) b _ c n _ (unshared (r .decider .owner) (h .mode) q (slot-home r (k .0) h i es .mode))))
+  good-acquire-arrives true c n false b x es sp =
+      good-by r k c rest (mayJoin (seen true c) n) _ (withRoom h c (does (withSlot (siteOf r k c) (someAgent (queuing h c n))) []))
       (λ q. let both = may-join (seen true c) n q in keep-joins r rest i k kk h es c n p b x (both .0) (both .1) sp) (λ q. good-queues r rest i k kk h es c n p b x sp)
 
-  good-released : (y : Bool) (c : ClientId) (b x : Bool) → slotAt r (k .0) ≡ record { present = y; agent = h } → Split r (came (Release c) b x ∷ []) rest
-      → Good r k c rest (released (seen y c) (came (Release c) b x) c)
-  unfolding released
-  good-released false c b x es sp = good-back c false b x release-of es sp
-  good-released true c b x es sp =
+  good-release-arrives : (y : Bool) (c : ClientId) (b x : Bool) → slotAt r (k .0) ≡ record { present = y; agent = h } → Split r (came (Release c) b x ∷ []) rest
+      → Good r k c rest (releaseArrives (seen y c) (came (Release c) b x) c)
+  unfolding releaseArrives
+  good-release-arrives false c b x es sp = good-back c false b x release-of es sp
+  good-release-arrives true c b x es sp =
       good-by r k c rest (listed h c) (leaves (seen true c) h c) _
       (λ q. keep-leaves r i k kk h es c (plain-request i release-of sp .below) q (statusAt r (c .0)) _ rest (release-leaves r rest i c p (ToMachine k) b x sp))
       (λ q. good-back c true b x release-of es sp)
 
   pub good-arrives : (m : Message) (y b x : Bool) → slotAt r (k .0) ≡ record { present = y; agent = h } → Split r (came m b x ∷ []) rest
       → Good r k (clientNamed m) rest (arrives m (seen y (clientNamed m)) (came m b x))
-  unfolding arrives granted returned installs agentS
-  good-arrives (Acquire c n g) y b x es sp = good-acquired y c n g b x es sp
-  good-arrives (Release c) y b x es sp = good-released y c b x es sp
+  unfolding arrives grantArrives freeArrives installs agentS
+  good-arrives (Acquire c n g) y b x es sp = good-acquire-arrives y c n g b x es sp
+  good-arrives (Release c) y b x es sp = good-release-arrives y c b x es sp
   good-arrives (Grant c n) y b false es sp = rw (← es) (keep-told r rest i k kk c n p (ToMachine k) b sp)
   good-arrives (Grant c n) true b true es sp = two sp es refl
   good-arrives (Grant c n) false false true es sp = keep-installs r rest k c n p _ i kk es refl sp

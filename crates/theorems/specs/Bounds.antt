@@ -7,7 +7,7 @@ use Prim.Native.Nat.{ℕ}
 use lib.ListN.{set, replicate}
 use Rattle.model.specs.Lists.{any, all, padded}
 use Rattle.theorems.specs.Names.{MachineId, ClientId, Exclusive, Shared, Unowned, Owned, Waiter, Queue, AgentSlot, Address, ToDecider, ToMachine, Message, Free, Acquire, Grant, Release, Packet, Wire, LockState, machines, clients, plain, carrying, inParts, Owner, _+_, locks, tasks, queueCapacity, wireCapacity}
-use Rattle.model.specs.States.{queueOf, newAgent, seated, noAgent, idle, blankWaiter, blankPacket, wireOf, noHolders}
+use Rattle.model.specs.States.{queueOf, newAgent, someAgent, noAgent, idle, blankWaiter, blankPacket, wireOf, noHolders}
 use Rattle.model.specs.Drain.{allowance}
 use Rattle.theorems.specs.Statements.{provedBound}
 use Rattle.model.specs.WellFormed.{shaped, isBlankWaiter, distinct, queueFormed, agentFormed, isBlankAgent, slotFormed, messageFormed, packetFormed, isBlankPacket, wireFormed, lockFormed}
@@ -42,7 +42,7 @@ abbrev slot0 : AgentSlot → LockState
 slot0 x = state (Owned Shared (machine 0)) (set nowhere 0 x) (wireOf [])
 
 abbrev queued : Queue → LockState
-queued q = slot0 (seated (record { mode = Exclusive; holders = noHolders; queue = q; incarnation = 0 }))
+queued q = slot0 (someAgent (record { mode = Exclusive; holders = noHolders; queue = q; incarnation = 0 }))
 
 abbrev waits : ℕ → Waiter
 waits c = record { client = client c; mode = Shared }
@@ -54,7 +54,7 @@ abbrev sent : Packet → LockState
 sent p = onWire (wireOf (p ∷ []))
 
 abbrev carried : AgentSlot
-carried = seated (newAgent Shared)
+carried = someAgent (newAgent Shared)
 
 -- a packet: message, address, rejected, what it carries
 abbrev framed : Message → Address → Bool → AgentSlot → LockState

@@ -1,11 +1,11 @@
 -- Every acquire of a client that is idle and named by no packet, and every release of one that holds, can be placed and keeps the
 -- invariant.
-use Rattle.theorems.specs.Names.{MachineId, ClientId, Mode, Exclusive, Shared, Owner, Unowned, Owned, Agent, AgentSlot, ToDecider, Message, Free, Acquire, Grant, Release, Packet, Idle, Waiting, Holding, LockState, _≡_, refl, ap, Bool, true, false, List, [], _∷_, _++_, ℕ, _+_, _≤_, _<_, arith, ℕ-discrete, length, getD, set, eq-eqb, ne-eqb, lt-ltb, pick, any, machineOf, seated, agentOn, listed, plain, waiters, noAgent, packets, Verdict, cannot-place, does, Site, siteOf, withSlot, withStatus, joining, queuing, noRoom, withRoom, mayJoin, lists, asks, acquires, leaves, releases, messageNames, names, or-left, or-right, waiters-of, sym, _∙_, true≢false, machines, clients, both}
+use Rattle.theorems.specs.Names.{MachineId, ClientId, Mode, Exclusive, Shared, Owner, Unowned, Owned, Agent, AgentSlot, ToDecider, Message, Free, Acquire, Grant, Release, Packet, Idle, Waiting, Holding, LockState, _≡_, refl, ap, Bool, true, false, List, [], _∷_, _++_, ℕ, _+_, _≤_, _<_, arith, ℕ-discrete, length, getD, set, eq-eqb, ne-eqb, lt-ltb, pick, any, machineOf, someAgent, agentOn, listed, plain, waiters, noAgent, packets, Verdict, cannot-place, does, Site, siteOf, withSlot, withStatus, joining, queuing, noRoom, withRoom, mayJoin, lists, clientAsks, clientAcquires, leaves, clientReleases, messageNames, names, or-left, or-right, waiters-of, sym, _∙_, true≢false, machines, clients, both}
 use Rattle.theorems.specs.Tally.{flag, tally, tally-append, tally-le}
 use Rattle.theorems.specs.Weights.{statusAt, slotAt, weight, one, hit, hitW, askM, queuedS, waitingP, markM, listedS, listedP, owedM, releaseM, releaseP, agentS, incarnationS, markAll, vacantS, waitF, holdF, idleF, clash, few, fits, misfitP}
 use Rattle.theorems.specs.Invariant.{Inv}
-use Rattle.theorems.specs.Keep.{Keeps, Split, keep, vacancy-by, framed}
-use Rattle.theorems.specs.Facts.{list-on, Home, home-fits, seat-home, status-move, in-slot, clash-none, namesM, hits, owes-list, joins-fits, joins-heads}
+use Rattle.theorems.specs.InvariantStep.{Keeps, Split, keep, vacancy-by, framed}
+use Rattle.theorems.specs.Facts.{list-on, Home, home-fits, slot-home, status-move, in-slot, clash-none, namesM, hits, owes-list, joins-fits, joins-heads}
 use Rattle.theorems.specs.Sent.{Good, good-by, may-join}
 use Rattle.theorems.specs.Waiters.{room-idle}
 use Rattle.theorems.specs.Leaving.{Leaver, keep-leaves}
@@ -74,19 +74,19 @@ module _ (r : LockState) (i : Inv r) (c : ClientId) (cl : c .0 < clients) (id : 
         vacancy = vacancy-by (slotAt r (k .0)) qs i (split-none r) kk refl (omega arith);
       })
 
-  module _ (k : MachineId) (kk : k .0 < machines) (h : Agent) (es : slotAt r (k .0) ≡ seated h) where
+  module _ (k : MachineId) (kk : k .0 < machines) (h : Agent) (es : slotAt r (k .0) ≡ someAgent h) where
     home : Home (r .decider .owner) (k .0) h
-    home = seat-home r (k .0) h i es
+    home = slot-home r (k .0) h i es
 
     hl : c .0 < length (h .holders)
     hl = omega (arith, home .sized)
 
     -- agent and request both shared
-    keep-joins : h .mode ≡ Shared → Keeps r k c ps (withSlot (withStatus (siteOf r k c) (Holding Shared)) (seated (joining h c))) []
+    keep-joins : h .mode ≡ Shared → Keeps r k c ps (withSlot (withStatus (siteOf r k c) (Holding Shared)) (someAgent (joining h c))) []
     unfolding tally queuedS listedS agentS incarnationS one waitF holdF idleF clash vacantS
     keep-joins sh =
-        let new : AgentSlot = seated (joining h c) in
-        let un : flag (getD (h .holders) (c .0) false) ≡ 0 = omega (arith, unlisted, in-slot r (listedP (c .0)) (listedS (c .0)) (k .0) (seated h) i kk es) in
+        let new : AgentSlot = someAgent (joining h c) in
+        let un : flag (getD (h .holders) (c .0) false) ≡ 0 = omega (arith, unlisted, in-slot r (listedP (c .0)) (listedS (c .0)) (k .0) (someAgent h) i kk es) in
         keep i
         (record {
           frame = framed (split-none r) kk es refl;
@@ -107,15 +107,15 @@ module _ (r : LockState) (i : Inv r) (c : ClientId) (cl : c .0 < clients) (id : 
     -- else it joins the queue's end, which has room
     in-line : (d : ℕ) (m : Mode) → tally (hitW d m) (waiters (h .queue)) ≤ waitF m (statusAt r d)
     unfolding queuedS
-    in-line d m = omega (arith, in-slot r (waitingP d m) (queuedS d m) (k .0) (seated h) i kk es, i .waits d m)
+    in-line d m = omega (arith, in-slot r (waitingP d m) (queuedS d m) (k .0) (someAgent h) i kk es, i .waits d m)
 
     home-room : noRoom h c ≡ false
     home-room = room-idle r i (waiters (h .queue)) in-line c cl id
 
-    keep-queues : (m : Mode) → Keeps r k c ps (withSlot (withStatus (siteOf r k c) (Waiting m)) (seated (queuing h c m))) []
+    keep-queues : (m : Mode) → Keeps r k c ps (withSlot (withStatus (siteOf r k c) (Waiting m)) (someAgent (queuing h c m))) []
     unfolding tally queuedS listedS agentS incarnationS one hit waitF holdF idleF clash vacantS
     keep-queues m =
-        let new : AgentSlot = seated (queuing h c m) in
+        let new : AgentSlot = someAgent (queuing h c m) in
         keep i
         (record {
           frame = framed (split-none r) kk es refl;
@@ -134,28 +134,28 @@ module _ (r : LockState) (i : Inv r) (c : ClientId) (cl : c .0 < clients) (id : 
         })
 
     abbrev queues : Mode → Verdict
-    queues m = withRoom h c (does (withSlot (withStatus (siteOf r k c) (Waiting m)) (seated (queuing h c m))) [])
+    queues m = withRoom h c (does (withSlot (withStatus (siteOf r k c) (Waiting m)) (someAgent (queuing h c m))) [])
 
     good-queues : (m : Mode) → Good r k c ps (queues m)
-    good-queues m = good-by r k c ps (noRoom h c) cannot-place (does (withSlot (withStatus (siteOf r k c) (Waiting m)) (seated (queuing h c m))) []) (λ q. true≢false (sym q ∙ home-room)) (λ q. keep-queues m)
+    good-queues m = good-by r k c ps (noRoom h c) cannot-place (does (withSlot (withStatus (siteOf r k c) (Waiting m)) (someAgent (queuing h c m))) []) (λ q. true≢false (sym q ∙ home-room)) (λ q. keep-queues m)
 
     -- by the test of the site v, whose slot has the agent
-    good-home : (v : Site) → v .slot ≡ seated h → (m : Mode)
-        → Good r k c ps (pick (mayJoin v m) (does (withSlot (withStatus (siteOf r k c) (Holding m)) (seated (joining h c))) []) (queues m))
+    good-home : (v : Site) → v .slot ≡ someAgent h → (m : Mode)
+        → Good r k c ps (pick (mayJoin v m) (does (withSlot (withStatus (siteOf r k c) (Holding m)) (someAgent (joining h c))) []) (queues m))
     good-home v e m = good-by r k c ps (mayJoin v m) _ (queues m) (λ q. let both = may-join v m q in rw (both .1) (keep-joins (rw e at (both .0)))) (λ q. good-queues m)
 
   -- the site: y, h are its slot
   abbrev seen : Bool → Agent → Site
   seen y h = withSlot (siteOf r (machineOf c) c) (record { present = y; agent = h })
 
-  good-asks : (m : Mode) (y : Bool) (h : Agent) → slotAt r (machineOf c .0) ≡ record { present = y; agent = h } → Good r (machineOf c) c ps (asks (seen y h) c m y h)
-  unfolding asks
-  good-asks m false h es = rw (← es) (keep-asks (machineOf c) (omega arith) m)
-  good-asks m true h es = good-home (machineOf c) (omega arith) h es (seen true h) refl m
+  good-client-asks : (m : Mode) (y : Bool) (h : Agent) → slotAt r (machineOf c .0) ≡ record { present = y; agent = h } → Good r (machineOf c) c ps (clientAsks (seen y h) c m y h)
+  unfolding clientAsks
+  good-client-asks m false h es = rw (← es) (keep-asks (machineOf c) (omega arith) m)
+  good-client-asks m true h es = good-home (machineOf c) (omega arith) h es (seen true h) refl m
 
-  pub good-acquires : (m : Mode) → Good r (machineOf c) c ps (acquires (siteOf r (machineOf c) c) c m)
-  unfolding acquires
-  good-acquires m = good-asks m (agentOn r (machineOf c) .present) (agentOn r (machineOf c) .agent) refl
+  pub good-client-acquires : (m : Mode) → Good r (machineOf c) c ps (clientAcquires (siteOf r (machineOf c) c) c m)
+  unfolding clientAcquires
+  good-client-acquires m = good-client-asks m (agentOn r (machineOf c) .present) (agentOn r (machineOf c) .agent) refl
 
 -- ---- a client that holds lets go
 module _ (r : LockState) (i : Inv r) (c : ClientId) (cl : c .0 < clients) (m : Mode) (ho : statusAt r (c .0) ≡ Holding m) where
@@ -204,14 +204,14 @@ module _ (r : LockState) (i : Inv r) (c : ClientId) (cl : c .0 < clients) (m : M
       }
 
   good-lets-go : (y : Bool) (h : Agent) → slotAt r (machineOf c .0) ≡ record { present = y; agent = h }
-      → Good r (machineOf c) c (packets (r .wire)) (releases (withSlot (siteOf r (machineOf c) c) (record { present = y; agent = h })) c)
-  unfolding releases
+      → Good r (machineOf c) c (packets (r .wire)) (clientReleases (withSlot (siteOf r (machineOf c) c) (record { present = y; agent = h })) c)
+  unfolding clientReleases
   good-lets-go false h es = rw (← es) (keep-releases (machineOf c) (omega arith))
   good-lets-go true h es = go (listed h c) refl
     where
-      go : (t : Bool) → listed h c ≡ t → Good r (machineOf c) c (packets (r .wire)) (pick t (leaves (withSlot (withStatus (siteOf r (machineOf c) c) Idle) (seated h)) h c) (does (withSlot (withStatus (siteOf r (machineOf c) c) Idle) (seated h)) (plain (Release c) ToDecider ∷ [])))
+      go : (t : Bool) → listed h c ≡ t → Good r (machineOf c) c (packets (r .wire)) (pick t (leaves (withSlot (withStatus (siteOf r (machineOf c) c) Idle) (someAgent h)) h c) (does (withSlot (withStatus (siteOf r (machineOf c) c) Idle) (someAgent h)) (plain (Release c) ToDecider ∷ [])))
       go true q = keep-leaves r i (machineOf c) (omega arith) h es c cl q Idle [] (packets (r .wire)) holder-leaves
       go false q = rw (← es) (keep-releases (machineOf c) (omega arith))
 
-  pub good-releases : Good r (machineOf c) c (packets (r .wire)) (releases (siteOf r (machineOf c) c) c)
-  good-releases = good-lets-go (agentOn r (machineOf c) .present) (agentOn r (machineOf c) .agent) refl
+  pub good-client-releases : Good r (machineOf c) c (packets (r .wire)) (clientReleases (siteOf r (machineOf c) c) c)
+  good-client-releases = good-lets-go (agentOn r (machineOf c) .present) (agentOn r (machineOf c) .agent) refl

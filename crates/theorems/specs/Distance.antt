@@ -1,7 +1,7 @@
 -- How far a lock's packets are from a step that lowers the work. Hops: the deliveries of a packet before the one that takes it; 3 where
 -- it is not known to be taken. A packet at index i with h hops is at the distance i + wireCapacity · h.
 use Prim.Native.Nat.{min}
-use Rattle.theorems.specs.Names.{MachineId, ClientId, Mode, Owner, Unowned, Owned, Agent, AgentSlot, Address, ToDecider, ToMachine, Message, Free, Acquire, Grant, Release, Packet, LockState, _≡_, refl, ap, Bool, true, false, not, and-false, false≢true, List, [], _∷_, _++_, ℕ, suc, _+_, _*_, _≤_, _<_, arith, length, getD, set, eqb, leb, ltb, eqb-true, ltb-true, leb-true, leb-false, le-leb, pick, seated, noAgent, packets, lists, bool-cases, _-_, machines, wireCapacity}
+use Rattle.theorems.specs.Names.{MachineId, ClientId, Mode, Owner, Unowned, Owned, Agent, AgentSlot, Address, ToDecider, ToMachine, Message, Free, Acquire, Grant, Release, Packet, LockState, _≡_, refl, ap, Bool, true, false, not, and-false, false≢true, List, [], _∷_, _++_, ℕ, suc, _+_, _*_, _≤_, _<_, arith, length, getD, set, eqb, leb, ltb, eqb-true, ltb-true, leb-true, leb-false, le-leb, pick, someAgent, noAgent, packets, lists, bool-cases, _-_, machines, wireCapacity}
 use Rattle.theorems.specs.Tally.{flag, tally, tally-set, tally-at, tally-le, tally-le-at, tally-none, tally-add, tally-zero}
 use Rattle.theorems.specs.Weights.{slotAt, weight, markM, listedS, owedM, owedP, agentS, agentP, ownedF, farM, ownedAt, misfitS, fits, misfitP}
 use Rattle.theorems.specs.Invariant.{Inv}
@@ -133,12 +133,12 @@ carried-near o x true t b a (Release c) = simp and-false (omega arith)
 carried-near o x true t b a (Grant c n) = omega arith
 carried-near o x true t b a Free = omega arith
 
-pub seated-is : (x : AgentSlot) → x .present ≡ true → x ≡ seated (x .agent)
-seated-is x e = ap (λ (b : Bool). record { present = b; agent = x .agent }) e
+pub some-agent-is : (x : AgentSlot) → x .present ≡ true → x ≡ someAgent (x .agent)
+some-agent-is x e = ap (λ (b : Bool). record { present = b; agent = x .agent }) e
 
 -- what counts only agents is counted on the one machine that has one
-only-here : (r : LockState) (i : Inv r) (k : ℕ) (kk : k < machines) (a : Agent) → slotAt r k ≡ seated a → (g : AgentSlot → ℕ) → ((x : AgentSlot) → agentS x ≡ 0 → g x ≡ 0)
-    → tally g (r .agents) ≡ g (seated a)
+only-here : (r : LockState) (i : Inv r) (k : ℕ) (kk : k < machines) (a : Agent) → slotAt r k ≡ someAgent a → (g : AgentSlot → ℕ) → ((x : AgentSlot) → agentS x ≡ 0 → g x ≡ 0)
+    → tally g (r .agents) ≡ g (someAgent a)
 unfolding weight agentS noAgent
 only-here r i k kk a es g z =
     let room : k < length (r .agents) = omega (arith, i .all-machines) in
@@ -181,7 +181,7 @@ module _ (r : LockState) (i : Inv r) where
   mark-there m k e here c u o =
       let a : Agent = slotAt r (k .0) .agent in
       let kk : k .0 < machines = ltb-true (k .0) machines (fit (ltb (k .0) machines) (near-owner r m k i e)) in
-      let es : slotAt r (k .0) ≡ seated a = seated-is (slotAt r (k .0)) here in
+      let es : slotAt r (k .0) ≡ someAgent a = some-agent-is (slotAt r (k .0)) here in
       let zero-slot : (x : AgentSlot) → agentS x ≡ 0 → listedS (c .0) x ≡ 0 = λ x z. absent x (absent-of x z) .listedS (c .0) in
       let off : flag (getD (a .holders) (c .0) false) ≡ 0 = ap flag (rw here at u) in
       omega (

@@ -1,20 +1,20 @@
 -- Every step of a drain is accepted and lowers the rank, so a drain ends, with its lock fresh and the others as they were.
 use Rattle.model.specs.Drain.{allowance, Next, none, some, nextCall, Quiescent, Drainage, ending, after-one, drainage, drainCalls, drainEnded, drainUnless, drain}
 use Rattle.model.specs.Refusals.{first}
-use Rattle.laws.specs.Opened.{lockOf, stepOf, perform-elsewhere, perform-here}
+use Rattle.laws.specs.CallSteps.{lockOf, stepOf, perform-elsewhere, perform-here}
 use Rattle.laws.specs.Next.{NextIs, delivers-first, releases-holder, next-is, rests, Goes, goes}
 use Rattle.laws.specs.Formed.{lock-formed}
-use Rattle.theorems.specs.Names.{LockId, MachineId, TaskId, ClientId, Mode, Exclusive, Shared, Address, ToDecider, ToMachine, Message, Free, Acquire, Grant, Release, Packet, Status, Idle, Waiting, Holding, LockState, Cluster, Call, ReleaseCall, DeliverCall, Accepted, Outcome, _≡_, refl, sym, ap, _∙_, Bool, true, false, _&&_, not, false≢true, List, [], _∷_, ℕ, zero, suc, _+_, _≤_, _<_, arith, length, eqb, eqb-true, eq-eqb, lt-leb, pick, all, removed, clientOf, statusOf, lockIn, packets, freshLock, wellFormed, isHolding, packetAt, after, answersOf, deliverStep, settled, perform, run, View, isAccepted, toMachine, isGrantFor, grants, shown, handedBack, sees, watch, and-left, locks, fresh, granted, inParts}
+use Rattle.theorems.specs.Names.{LockId, MachineId, TaskId, ClientId, Mode, Exclusive, Shared, Address, ToDecider, ToMachine, Message, Free, Acquire, Grant, Release, Packet, Status, Idle, Waiting, Holding, LockState, Cluster, Call, ReleaseCall, DeliverCall, Accepted, Outcome, _≡_, refl, sym, ap, _∙_, Bool, true, false, _&&_, not, false≢true, List, [], _∷_, ℕ, zero, suc, _+_, _≤_, _<_, arith, length, eqb, eqb-true, eq-eqb, lt-leb, pick, all, removed, clientOf, statusOf, lockIn, packets, freshLock, wellFormed, isHolding, packetAt, after, answersOf, deliverStep, settled, perform, run, View, isAccepted, toMachine, isGrantFor, showsGrant, afterGrant, afterRelease, sees, watch, and-left, locks, fresh, inParts}
 use Rattle.theorems.specs.Weights.{statusAt, waitF, holdF, few}
 use Rattle.theorems.specs.Invariant.{Inv}
-use Rattle.theorems.specs.Keep.{Split, split-at}
+use Rattle.theorems.specs.InvariantStep.{Split, split-at}
 use Rattle.theorems.specs.Facts.{grant-waits}
 use Rattle.theorems.specs.Fresh.{all-idle}
 use Rattle.theorems.specs.Runs.{sound-step, Reached, reached-next, reached}
 use Rattle.theorems.specs.Traced.{agrees-call}
 use Rattle.theorems.specs.Statements.{provedBound, Drains, Demand3}
 use Rattle.theorems.specs.Theorems.{trace-agrees, exclusion-of-trace}
-use Rattle.theorems.specs.Falls.{rank, rank-bound, deliver-falls, release-falls}
+use Rattle.theorems.specs.RankFalls.{rank, rank-bound, deliver-falls, release-falls}
 use Rattle.theorems.specs.Quiescence.{is-fresh}
 
 -- ---- the view of a client along a drain: its grants, and 1 more while it waits, stay as many
@@ -28,9 +28,9 @@ count v = v .grants + waitingF (v .phase)
 Counted : LockId → Call → Cluster → Type 0
 Counted l a x = (c : ClientId) (v : View) → v .phase ≡ statusOf (lockIn x l) c → count (sees l c a x (perform a x .cluster) v) ≡ count v
 
-shown-waiting : (v : View) (n : Mode) → v .phase ≡ Waiting n → count (shown v) ≡ count v
+count-waiting : (v : View) (n : Mode) → v .phase ≡ Waiting n → count (afterGrant v) ≡ count v
 unfolding waitingF waitF
-shown-waiting v n e = rw e (go n)
+count-waiting v n e = rw e (go n)
   where
     go : (n : Mode) → count (record { phase = Holding n; grants = v .grants + 1 }) ≡ count (record { phase = Waiting n; grants = v .grants })
     go Exclusive = omega arith
@@ -48,23 +48,23 @@ grant-finds s i rest c p (ToMachine k) (Grant d n) b sp e =
 
 deliver-counted : (x : Cluster) (l : LockId) (j : ℕ) → Inv (lockIn x l) → j < length (packets (lockIn x l .wire)) → Counted l (DeliverCall l j) x
 unfolding Counted sees
-deliver-counted x l j i b c v e = rw (eq-eqb (l .0) (l .0) refl) (go (grants c (packetAt (lockIn x l) j)) refl)
+deliver-counted x l j i b c v e = rw (eq-eqb (l .0) (l .0) refl) (go (showsGrant c (packetAt (lockIn x l) j)) refl)
   where
     p : Packet
     p = packetAt (lockIn x l) j
 
-    go : (t : Bool) → grants c (packetAt (lockIn x l) j) ≡ t → count (pick t (shown v) v) ≡ count v
+    go : (t : Bool) → showsGrant c (packetAt (lockIn x l) j) ≡ t → count (pick t (afterGrant v) v) ≡ count v
     go false q = refl
     go true q =
         let w : (n : Mode) × (statusOf (lockIn x l) c ≡ Waiting n) =
         grant-finds (lockIn x l) i (removed (packets (lockIn x l .wire)) j) c p (p .to) (p .message) (p .rejected) (split-at (lockIn x l) j p b refl) q in
-        shown-waiting v (w .0) (e ∙ w .1)
+        count-waiting v (w .0) (e ∙ w .1)
 
 release-counted : (x : Cluster) (l : LockId) (k : MachineId) (t : TaskId) (m : Mode) → statusOf (lockIn x l) (clientOf k t) ≡ Holding m → Counted l (ReleaseCall l k t) x
 unfolding Counted sees waitingF waitF
 release-counted x l k t m ho c v e = rw (eq-eqb (l .0) (l .0) refl) (go (eqb (c .0) (clientOf k t .0)) refl)
   where
-    go : (b : Bool) → eqb (c .0) (clientOf k t .0) ≡ b → count (pick b (handedBack v) v) ≡ count v
+    go : (b : Bool) → eqb (c .0) (clientOf k t .0) ≡ b → count (pick b (afterRelease v) v) ≡ count v
     go false q = refl
     go true q = let w : v .phase ≡ Holding m = e ∙ ap (λ (z : ℕ). statusAt (lockIn x l) z) (eqb-true (c .0) (clientOf k t .0) q) ∙ ho in rw w
 
@@ -119,7 +119,7 @@ record Ends (x : Cluster) (l : LockId) (n : ℕ) (d : Drainage) : Type 0 where
   accepted : all isAccepted (answersOf (d .calls) x) ≡ true
   quiescent : Quiescent l (lockIn (d .cluster) l)
   others : (j : LockId) → (j .0 ≡ l .0 → ⊥) → lockIn (d .cluster) j ≡ lockIn x j
-  shown : (c : ClientId) (v : View) → v .phase ≡ statusOf (lockIn x l) c → watch l c (d .calls) x v .grants ≡ v .grants + waitingF (statusOf (lockIn x l) c)
+  counted : (c : ClientId) (v : View) → v .phase ≡ statusOf (lockIn x l) c → watch l c (d .calls) x v .grants ≡ v .grants + waitingF (statusOf (lockIn x l) c)
 
 drainage-stops : (n : ℕ) (l : LockId) (x : Cluster) → nextCall l (lockIn x l) ≡ none → drainage n l x ≡ ending Accepted x
 unfolding drainage
@@ -140,21 +140,21 @@ ends-now : (m n : ℕ) (x : Cluster) (l : LockId) → nextCall l (lockIn x l) �
 unfolding watch run
 ends-now m n x l e f =
     rw (drainage-stops n l x e)
-    (record { answer = refl; few = omega arith; runs = refl; state = f; accepted = refl; quiescent = e; others = λ j z. refl; shown = λ c v p. omega (arith, idle-waits x l c f) })
+    (record { answer = refl; few = omega arith; runs = refl; state = f; accepted = refl; quiescent = e; others = λ j z. refl; counted = λ c v p. omega (arith, idle-waits x l c f) })
 
 -- one step, and the drain of what it leaves
 module _ (x : Cluster) (l : LockId) (h : Reached x) (a : Call) (q : lockOf a ≡ l) (t : perform a x .answer ≡ Accepted) (cn : Counted l a x) where
   abbrev y : Cluster
   y = perform a x .cluster
 
-  shown-on : (m : ℕ) (d : Drainage) → Ends y l m d → (c : ClientId) (v : View) → v .phase ≡ statusOf (lockIn x l) c
+  count-on : (m : ℕ) (d : Drainage) → Ends y l m d → (c : ClientId) (v : View) → v .phase ≡ statusOf (lockIn x l) c
       → watch l c (a ∷ d .calls) x v .grants ≡ v .grants + waitingF (statusOf (lockIn x l) c)
   unfolding watch Counted
-  shown-on m d ih c v p =
+  count-on m d ih c v p =
       let v′ : View = sees l c a x y v in
       let p′ : v′ .phase ≡ statusOf (lockIn y l) c = rw t at (agrees-call a l c x v h p) in
       let e : pick (isAccepted (perform a x .answer)) v′ v ≡ v′ = rw t in
-      ap (λ (w : View). watch l c (d .calls) y w .grants) e ∙ omega (arith, ih .shown c v′ p′, cn c v p, ap waitingF p, ap waitingF p′)
+      ap (λ (w : View). watch l c (d .calls) y w .grants) e ∙ omega (arith, ih .counted c v′ p′, cn c v p, ap waitingF p, ap waitingF p′)
 
   ends-after : (m : ℕ) (d : Drainage) → Ends y l m d → Ends x l (suc m) (after-one a d)
   unfolding run
@@ -167,11 +167,11 @@ module _ (x : Cluster) (l : LockId) (h : Reached x) (a : Call) (q : lockOf a ≡
         accepted = rw t (ih .accepted);
         quiescent = ih .quiescent;
         others = λ j z. ih .others j z ∙ perform-elsewhere a x j (λ w. z (w ∙ ap (λ (k : LockId). k .0) q));
-        shown = shown-on m d ih;
+        counted = count-on m d ih;
       }
 
 ends-more : {x : Cluster} {l : LockId} {m n : ℕ} {d : Drainage} → m ≤ n → Ends x l m d → Ends x l n d
-ends-more b e = record { answer = e .answer; few = omega (arith, b, e .few); runs = e .runs; state = e .state; accepted = e .accepted; quiescent = e .quiescent; others = e .others; shown = e .shown }
+ends-more b e = record { answer = e .answer; few = omega (arith, b, e .few); runs = e .runs; state = e .state; accepted = e .accepted; quiescent = e .quiescent; others = e .others; counted = e .counted }
 
 -- by induction on the steps allowed: the rank bounds those that are taken
 ends : (n : ℕ) (x : Cluster) (l : LockId) → l .0 < locks → Reached x → rank (lockIn x l) ≤ n → Ends x l (rank (lockIn x l)) (drainage n l x)
@@ -213,7 +213,7 @@ drains-reached x l lb h =
       quiescent = rw d (e .quiescent);
       fresh = rw d (e .state);
       others = λ j n. rw d (e .others j n);
-      granted = λ c m q. omega (arith, e .shown c (record { phase = statusOf (lockIn x l) c; grants = 0 }) refl, ap waitingF q, waiting-one m);
+      granted = λ c m q. omega (arith, e .counted c (record { phase = statusOf (lockIn x l) c; grants = 0 }) refl, ap waitingF q, waiting-one m);
     }
 
 -- the same phases, given otherwise

@@ -1,9 +1,9 @@
 -- What the invariant gives: of packets, of agents, of counts.
-use Rattle.theorems.specs.Names.{MachineId, ClientId, Mode, Exclusive, Shared, Owner, Unowned, Owned, Waiter, Agent, AgentSlot, Address, Message, Free, Acquire, Grant, Release, Packet, Status, Idle, Waiting, Holding, LockState, _≡_, refl, sym, ap, _∙_, Bool, true, false, _&&_, not, and-false, false≢true, List, [], _∷_, ℕ, _+_, _*_, _≤_, _<_, arith, ℕ-discrete, length, getD, set, length-set, List·getD-eq-default, getD-set-same, getD-set-other, eqb, ltb, eqb-true, eq-eqb, ne-eqb, ltb-true, ltb-false, lt-ltb, leb-true, le-leb, seated, idle, noAgent, packets, changed, and-left, and-right, bool-cases, machines, clients, wireCapacity, machineOf, ownedShared, true≢false, isShared, isFree}
+use Rattle.theorems.specs.Names.{MachineId, ClientId, Mode, Exclusive, Shared, Owner, Unowned, Owned, Waiter, Agent, AgentSlot, Address, Message, Free, Acquire, Grant, Release, Packet, Status, Idle, Waiting, Holding, LockState, _≡_, refl, sym, ap, _∙_, Bool, true, false, _&&_, not, and-false, false≢true, List, [], _∷_, ℕ, _+_, _*_, _≤_, _<_, arith, ℕ-discrete, length, getD, set, length-set, List·getD-eq-default, getD-set-same, getD-set-other, eqb, ltb, eqb-true, eq-eqb, ne-eqb, ltb-true, ltb-false, lt-ltb, leb-true, le-leb, someAgent, idle, noAgent, packets, changed, and-left, and-right, bool-cases, machines, clients, wireCapacity, machineOf, ownedShared, true≢false, isShared, isFree}
 use Rattle.theorems.specs.Tally.{flag, tally, tally-set, tally-at, tally-le, tally-none, tally-add, tally-length, sumTo, sum-swap, sum-le, sum-ext, sum-one}
 use Rattle.theorems.specs.Weights.{statusAt, slotAt, weight, sameMode, one, hit, hitW, askM, queuedS, waitingP, markM, listedS, listedP, owedM, owedP, releaseM, releaseP, agentS, agentP, incarnationS, incarnationP, markAll, markP, rejectedP, heads, vacantS, waitF, holdF, idleF, ownedF, clash, farM, farF, ownedMode, ownedAt, few, fitsHome, misfitS, fitsAway, inRange, fits, fitsP, misfitP}
 use Rattle.theorems.specs.Invariant.{Inv}
-use Rattle.theorems.specs.Keep.{Split, told}
+use Rattle.theorems.specs.InvariantStep.{Split, told}
 
 -- ---- tests: from a count of misfits to the test
 pub fit : (b : Bool) → flag (not b) ≡ 0 → b ≡ true
@@ -123,7 +123,7 @@ pub record Home (o : Owner) (k : ℕ) (a : Agent) : Type 0 where
   pub few : few (a .mode) (heads a) ≡ true
   pub small : a .incarnation < 256
 
-pub home-of : (o : Owner) (k : ℕ) (a : Agent) → misfitS o k (seated a) ≡ 0 → Home o k a
+pub home-of : (o : Owner) (k : ℕ) (a : Agent) → misfitS o k (someAgent a) ≡ 0 → Home o k a
 unfolding misfitS fitsHome
 home-of o k a e =
     let h : fitsHome o k a ≡ true = fit (fitsHome o k a) e in
@@ -138,12 +138,12 @@ home-of o k a e =
       small = ltb-true (a .incarnation) 256 (and-right (few (a .mode) (heads a)) _ h3);
     }
 
-pub home-fits : (o : Owner) (k : ℕ) (a : Agent) → Home o k a → misfitS o k (seated a) ≡ 0
+pub home-fits : (o : Owner) (k : ℕ) (a : Agent) → Home o k a → misfitS o k (someAgent a) ≡ 0
 unfolding misfitS fitsHome
 home-fits o k a h = rw (h .at, h .mode, eq-eqb (length (a .holders)) clients (h .sized), h .few, lt-ltb (a .incarnation) 256 (h .small))
 
-pub seat-home : (r : LockState) (k : ℕ) (a : Agent) → Inv r → slotAt r k ≡ seated a → Home (r .decider .owner) k a
-seat-home r k a i e = home-of (r .decider .owner) k a (rw e at (i .homes k))
+pub slot-home : (r : LockState) (k : ℕ) (a : Agent) → Inv r → slotAt r k ≡ someAgent a → Home (r .decider .owner) k a
+slot-home r k a i e = home-of (r .decider .owner) k a (rw e at (i .homes k))
 
 pub few-less : (m : Mode) (x y : ℕ) → y ≤ x → few m x ≡ true → few m y ≡ true
 few-less Exclusive x y h e = le-leb y 1 (omega (arith, leb-true x 1 e))
@@ -475,7 +475,7 @@ module _ (r : LockState) (p : Packet) (rest : List Packet) (i : Inv r) (sp : Spl
       )
 
 -- ---- the agent at home: no packet carries one, no other machine has one
-module _ (r : LockState) (i : Inv r) (k : ℕ) (kk : k < machines) (a : Agent) (es : slotAt r k ≡ seated a) where
+module _ (r : LockState) (i : Inv r) (k : ℕ) (kk : k < machines) (a : Agent) (es : slotAt r k ≡ someAgent a) where
   pub none-away : tally agentP (packets (r .wire)) ≡ 0
   unfolding weight agentS
   none-away = omega (arith, i .agent, owned-one (r .decider .owner), rw es at (tally-at agentS noAgent (r .agents) k (omega (arith, i .all-machines))))

@@ -1,12 +1,12 @@
 -- A holder is removed from the agent's list, and the agent leaves if it is empty: by the client's release on the agent's machine, and
 -- by a RELEASE that is delivered there.
-use Rattle.theorems.specs.Names.{MachineId, ClientId, Mode, Waiter, Agent, AgentSlot, Free, Grant, Packet, Status, LockState, _≡_, refl, _∙_, Bool, true, false, true≢false, false≢true, List, [], _∷_, ℕ, _+_, _≤_, _<_, arith, length, getD, length-set, ne-eqb, lt-ltb, any, seated, listed, queueOf, waiters, noAgent, Site, withSlot, changed, anyHolder, without, departing, lists, handOver, staysIf, leaves, waiters-of, machines, clients, siteOf, withStatus}
+use Rattle.theorems.specs.Names.{MachineId, ClientId, Mode, Waiter, Agent, AgentSlot, Free, Grant, Packet, Status, LockState, _≡_, refl, _∙_, Bool, true, false, true≢false, false≢true, List, [], _∷_, ℕ, _+_, _≤_, _<_, arith, length, getD, length-set, ne-eqb, lt-ltb, any, someAgent, listed, queueOf, waiters, noAgent, Site, withSlot, changed, anyHolder, without, departing, lists, handOver, staysIf, leaves, waiters-of, machines, clients, siteOf, withStatus}
 use Rattle.theorems.specs.Tally.{flag, tally, tally-set}
 use Rattle.theorems.specs.Weights.{statusAt, slotAt, weight, one, hit, askM, queuedS, waitingP, markM, listedS, listedP, owedM, owedP, releaseM, releaseP, agentS, agentP, incarnationS, incarnationP, markAll, markP, rejectedP, heads, vacantS, waitF, holdF, idleF, clash, farP, few, misfitS, fitsAway, fitsFree, fits, misfitP}
 use Rattle.theorems.specs.Invariant.{Inv}
-use Rattle.theorems.specs.Keep.{Keeps, Split, told, keep, vacancy-by, framed}
+use Rattle.theorems.specs.InvariantStep.{Keeps, Split, told, keep, vacancy-by, framed}
 use Rattle.theorems.specs.Sent.{Good}
-use Rattle.theorems.specs.Facts.{list-off, away-fits, Home, home-fits, seat-home, few-less, waiter-below, hit-self, in-slot}
+use Rattle.theorems.specs.Facts.{list-off, away-fits, Home, home-fits, slot-home, few-less, waiter-below, hit-self, in-slot}
 
 -- what the two have in common: c is removed, its status becomes st, the packets gone leave the wire
 pub record Leaver (r : LockState) (c : ClientId) (st : Status) (gone rest : List Packet) : Type 0 where
@@ -32,24 +32,24 @@ some-listed [] e z = false≢true e
 some-listed (true ∷ hs) e z = omega arith
 some-listed (false ∷ hs) e z = some-listed hs e (omega arith)
 
-module _ (r : LockState) (i : Inv r) (k : MachineId) (kk : k .0 < machines) (a : Agent) (es : slotAt r (k .0) ≡ seated a) (c : ClientId) (cl : c .0 < clients)
+module _ (r : LockState) (i : Inv r) (k : MachineId) (kk : k .0 < machines) (a : Agent) (es : slotAt r (k .0) ≡ someAgent a) (c : ClientId) (cl : c .0 < clients)
     (li : listed a c ≡ true) (st : Status) (gone rest : List Packet) (le : Leaver r c st gone rest) where
   -- the site, with that status
   abbrev site : Site
-  site = withSlot (withStatus (siteOf r k c) st) (seated a)
+  site = withSlot (withStatus (siteOf r k c) st) (someAgent a)
 
   abbrev hs : List Bool
   hs = without a c
 
   home : Home (r .decider .owner) (k .0) a
-  home = seat-home r (k .0) a i es
+  home = slot-home r (k .0) a i es
 
   hl : c .0 < length (a .holders)
   hl = omega (arith, home .sized)
 
   -- what the three cases share: the slot and the packets are open
   keep-left : (new : AgentSlot) (qs : List Packet)
-      → ((d : ℕ) (n : Mode) → tally (waitingP d n) qs + queuedS d n new ≡ queuedS d n (seated a))
+      → ((d : ℕ) (n : Mode) → tally (waitingP d n) qs + queuedS d n new ≡ queuedS d n (someAgent a))
       → ((d : ℕ) → tally (listedP d) qs + listedS d new ≡ flag (getD hs d false))
       → ((d : ℕ) → (tally (owedP d) qs ≡ 0) × (tally (releaseP d) qs ≡ 0))
       → tally agentP qs + agentS new ≡ 1 → tally incarnationP qs + incarnationS new ≡ a .incarnation → tally markP qs ≡ 0
@@ -76,7 +76,7 @@ module _ (r : LockState) (i : Inv r) (k : MachineId) (kk : k .0 < machines) (a :
   keep-some : anyHolder hs ≡ true → Good r k c rest (staysIf true site a hs)
   unfolding staysIf tally queuedS listedS agentS incarnationS vacantS
   keep-some so =
-      keep-left (seated (changed a hs (a .queue) (a .incarnation))) [] (λ d n. omega arith) (λ d. omega arith) (λ d. (refl, refl)) refl (omega arith) refl refl
+      keep-left (someAgent (changed a hs (a .queue) (a .incarnation))) [] (λ d n. omega arith) (λ d. omega arith) (λ d. (refl, refl)) refl (omega arith) refl refl
       (home-fits (r .decider .owner) (k .0) _
       (record {
         at = home .at;
@@ -96,8 +96,8 @@ module _ (r : LockState) (i : Inv r) (k : MachineId) (kk : k .0 < machines) (a :
       keep-left noAgent (departing Free a hs [] ∷ []) (λ d n. rw (q, waiters-of [])) (λ d. omega arith) (λ d. (refl, refl)) refl (omega arith) refl
       (rw (home .mode, away no-one [])) refl refl refl
   keep-none no-one (w ∷ ws) q =
-      let self : hit (w .client .0) (w .mode) (w .client) (w .mode) ≤ queuedS (w .client .0) (w .mode) (seated a) = rw q (omega arith) in
-      let in-queue : queuedS (w .client .0) (w .mode) (seated a) ≤ weight (waitingP (w .client .0) (w .mode)) (queuedS (w .client .0) (w .mode)) r = in-slot r _ _ (k .0) (seated a) i kk es in
+      let self : hit (w .client .0) (w .mode) (w .client) (w .mode) ≤ queuedS (w .client .0) (w .mode) (someAgent a) = rw q (omega arith) in
+      let in-queue : queuedS (w .client .0) (w .mode) (someAgent a) ≤ weight (waitingP (w .client .0) (w .mode)) (queuedS (w .client .0) (w .mode)) r = in-slot r _ _ (k .0) (someAgent a) i kk es in
       let wb : w .client .0 < clients = waiter-below r (w .client .0) (w .mode) i (omega (arith, hit-self (w .client) (w .mode), self, in-queue)) in
       keep-left noAgent (departing (Grant (w .client) (w .mode)) a hs ws ∷ []) (λ d n. rw (q, waiters-of ws) (omega arith)) (λ d. omega arith) (λ d. (refl, refl)) refl (omega arith) refl
       (rw (lt-ltb (w .client .0) clients wb, home .mode, away no-one ws)) refl refl refl

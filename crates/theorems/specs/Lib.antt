@@ -10,7 +10,7 @@ pub mod Tally
 pub mod Weights
 pub mod Invariant
 -- ---- what a step has to show, and what the invariant gives
-pub mod Keep
+pub mod InvariantStep
 pub mod Facts
 pub mod Fresh
 -- ---- the rules
@@ -31,6 +31,6 @@ pub mod Theorems
 -- ---- the drain: its bound, and how it ends
 pub mod Work
 pub mod Distance
-pub mod Falls
+pub mod RankFalls
 pub mod Quiescence
 pub mod Drains

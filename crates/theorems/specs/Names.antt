@@ -21,22 +21,22 @@ pub use borrow.Author.Tests.{eqb-true, eqb-false, eq-eqb, ne-eqb, ltb-true, ltb-
 -- ---- the model and its laws
 pub use Rattle.model.specs.Lists.{pick, any, all}
 unfoldable pub use Rattle.model.specs.Lists.{removed}
-pub use Rattle.model.specs.States.{locks, machines, tasks, clients, queueCapacity, wireCapacity, clientOf, machineOf, modeOf, isShared, noHolders, newAgent, seated, agentOn, listed, idle, statusOf, plain, carrying, resent, unowned, lockIn}
+pub use Rattle.model.specs.States.{locks, machines, tasks, clients, queueCapacity, wireCapacity, clientOf, machineOf, modeOf, isShared, noHolders, newAgent, someAgent, agentOn, listed, idle, statusOf, plain, carrying, resent, unowned, lockIn}
 unfoldable pub use Rattle.model.specs.States.{queueOf, waiters, noAgent, blankPacket, wireOf, packets, freshLock, fresh}
 pub use Rattle.model.specs.WellFormed.{isClient, isFree}
 unfoldable pub use Rattle.model.specs.WellFormed.{lockFormed, wellFormed}
 pub use Rattle.model.specs.Changes.{siteOf, withDecider, withSlot, withStatus, Verdict, cannot-place, does, apply, accepted}
 unfoldable pub use Rattle.model.specs.Changes.{finish}
 pub use Rattle.model.specs.Asking.{changed, joining, queuing, noRoom, withRoom, anyHolder, without, departing, leaves, lists}
-unfoldable pub use Rattle.model.specs.Asking.{mayJoin, asks, acquires, handOver, staysIf, releases}
+unfoldable pub use Rattle.model.specs.Asking.{mayJoin, clientAsks, clientAcquires, handOver, staysIf, clientReleases}
 pub use Rattle.model.specs.AtDecider.{next, sentOn, ownedShared, grantsWith, grantsFirst, shares, current, rejectedTo, rejects, passesOn}
 unfoldable pub use Rattle.model.specs.AtDecider.{mayShare, toOwner, decidesAcquire, decidesFree, decidesGrant, decides, atDecider}
 pub use Rattle.model.specs.AtMachine.{sentBack, sendsBack, grantOf, installed, requeued}
-unfoldable pub use Rattle.model.specs.AtMachine.{admitted, staying, joined, installs, granted, marked, unmarked, acquired, released, returned, arrives, atMachine}
+unfoldable pub use Rattle.model.specs.AtMachine.{admitted, staying, joined, installs, grantArrives, marked, unmarked, acquireArrives, releaseArrives, freeArrives, arrives, atMachine}
 pub use Rattle.model.specs.Calls.{refusing, isIdle, isHolding, messageNames, names, machineAt, clientNamed, packetAt, answersOf, after}
 unfoldable pub use Rattle.model.specs.Calls.{delivers, acquireStep, releaseStep, takes, deliverStep, settled, unless, acquire, release, deliver, perform, run}
 pub use Rattle.model.specs.Refusals.{refusalNumber, number}
-pub use Rattle.model.specs.Trace.{View, unseen, sameLock, sameClient, isAccepted, listedHome, joinsNow, toMachine, isGrantFor, grants, asked, shownIn, shown, handedBack, phaseAfter}
+pub use Rattle.model.specs.Trace.{View, unseen, sameLock, sameClient, isAccepted, listedHome, joinsNow, toMachine, isGrantFor, showsGrant, afterAcquire, afterGrantIn, afterGrant, afterRelease, phaseAfter}
 unfoldable pub use Rattle.model.specs.Trace.{sees, watch}
 pub use Rattle.laws.specs.Tests.{and-left, and-right, both, or-left, or-right, bool-cases, pick-yes, pick-no}
 pub use Rattle.laws.specs.Shapes.{packets-of, waiters-of}

@@ -14,18 +14,18 @@ unfolding tally
 unlisted [] h = refl
 unlisted (b ∷ hs) h = omega (arith, h 0, unlisted hs (λ d. h (suc d)))
 
-unseated : (x : AgentSlot) → vacantS x ≡ 0 → ((d : ℕ) → listedS d x ≡ 0) → agentS x ≡ 0
+no-agent-on : (x : AgentSlot) → vacantS x ≡ 0 → ((d : ℕ) → listedS d x ≡ 0) → agentS x ≡ 0
 unfolding vacantS listedS agentS
-unseated x v h =
+no-agent-on x v h =
     bool-cases (x .present)
     (λ q. absurd (omega (arith, rw (q, eq-eqb (heads (x .agent)) 0 (unlisted (x .agent .holders) (λ d. rw q at (h d)))) at v)))
     (λ q. rw q)
 
-none-seated : (xs : List AgentSlot) → tally vacantS xs ≡ 0 → ((d : ℕ) → tally (listedS d) xs ≡ 0) → tally agentS xs ≡ 0
+no-agent-on-any : (xs : List AgentSlot) → tally vacantS xs ≡ 0 → ((d : ℕ) → tally (listedS d) xs ≡ 0) → tally agentS xs ≡ 0
 unfolding tally
-none-seated [] v h = refl
-none-seated (x ∷ xs) v h =
-    omega (arith, unseated x (omega arith) (λ d. omega (arith, h d)), none-seated xs (omega arith) (λ d. omega (arith, h d)))
+no-agent-on-any [] v h = refl
+no-agent-on-any (x ∷ xs) v h =
+    omega (arith, no-agent-on x (omega arith) (λ d. omega (arith, h d)), no-agent-on-any xs (omega arith) (λ d. omega (arith, h d)))
 
 -- a slot without an agent is blank
 blank-slot : (x : AgentSlot) → slotFormed x ≡ true → x .present ≡ false → x ≡ noAgent
@@ -56,9 +56,9 @@ unowned-is (Owned m k) e = absurd (omega arith)
 
 module _ (r : LockState) (i : Inv r) (f : lockFormed r ≡ true) (empty : packets (r .wire) ≡ []) (nobody : (d : ℕ) → holdF (statusAt r d) ≡ 0) where
   -- with no packets a weight is that of the agents
-  only-seats : (g : Packet → ℕ) (h : AgentSlot → ℕ) → weight g h r ≡ tally h (r .agents)
+  only-slots : (g : Packet → ℕ) (h : AgentSlot → ℕ) → weight g h r ≡ tally h (r .agents)
   unfolding weight tally
-  only-seats g h = rw empty (omega arith)
+  only-slots g h = rw empty (omega arith)
 
   nothing : (g : Packet → ℕ) → tally g (packets (r .wire)) ≡ 0
   unfolding tally
@@ -66,15 +66,15 @@ module _ (r : LockState) (i : Inv r) (f : lockFormed r ≡ true) (empty : packet
 
   no-agents : tally agentS (r .agents) ≡ 0
   no-agents =
-      none-seated (r .agents) (omega (arith, i .vacancy, only-seats rejectedP vacantS, nothing markP))
-      (λ d. omega (arith, i .holds d, only-seats (listedP d) (listedS d), nobody d, nothing (owedP d)))
+      no-agent-on-any (r .agents) (omega (arith, i .vacancy, only-slots rejectedP vacantS, nothing markP))
+      (λ d. omega (arith, i .holds d, only-slots (listedP d) (listedS d), nobody d, nothing (owedP d)))
 
   owner : r .decider .owner ≡ Unowned
-  owner = unowned-is _ (omega (arith, i .agent, only-seats agentP agentS, no-agents))
+  owner = unowned-is _ (omega (arith, i .agent, only-slots agentP agentS, no-agents))
 
   waiting-none : (d : ℕ) (m : Mode) → waitF m (statusAt r d) ≡ 0
   waiting-none d m =
-      omega (arith, i .waits d m, only-seats (waitingP d m) (queuedS d m), tally-none agentS (queuedS d m) (λ x z. absent x (absent-of x z) .queuedS d m) (r .agents) no-agents)
+      omega (arith, i .waits d m, only-slots (waitingP d m) (queuedS d m), tally-none agentS (queuedS d m) (λ x z. absent x (absent-of x z) .queuedS d m) (r .agents) no-agents)
 
   agents : r .agents ≡ replicate machines noAgent
   agents = rw (i .all-machines) at (blank-slots (r .agents) (parts r f .agents) no-agents)

@@ -13,7 +13,7 @@ use Rattle.model.specs.WellFormed.{wellFormed}
 use Rattle.model.specs.Refusals.{_when_, first}
 use Rattle.model.specs.Calls.{perform, run, answersOf}
 use Rattle.model.specs.Drain.{allowance, Next, none, some, nextCall, Quiescent, Drainage, drainage, drainCalls, drainRefused, drainEnded, drainUnless, drain}
-use Rattle.laws.specs.Opened.{lockOf, perform-elsewhere}
+use Rattle.laws.specs.CallSteps.{lockOf, perform-elsewhere}
 use Rattle.laws.specs.Next.{NextIs, delivers-first, releases-holder, next-is}
 use Rattle.theorems.specs.Scenarios.{Result, scenarios, scenarios-hold, machine, on, acquires0, delivers0, with0, d1, d3-rejected, d4}
 

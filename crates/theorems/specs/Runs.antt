@@ -1,5 +1,5 @@
 -- Calls and lists of calls: each keeps the invariant of every lock, and no call is refused with 9 to 14.
-use Rattle.laws.specs.Opened.{lockOf, stepOf, Allowed, may-acquire, may-release, may-deliver, Opened, denied, passed, opened, perform-here}
+use Rattle.laws.specs.CallSteps.{lockOf, stepOf, Allowed, may-acquire, may-release, may-deliver, CallCases, denied, passed, call-cases, perform-here}
 use Rattle.laws.specs.Clusters.{fresh-formed, perform-formed, perform-keeps}
 use Rattle.theorems.specs.Names.{LockId, LockState, Cluster, Call, Refusal, Accepted, Outcome, _≡_, refl, ap, _∙_, true, List, [], _∷_, ℕ, zero, suc, _≤_, arith, getD, replicate, clientOf, modeOf, lockIn, freshLock, fresh, lockFormed, wellFormed, refusing, after, settled, perform, run, refusalNumber, number, locks}
 use Rattle.theorems.specs.Invariant.{Inv}
@@ -49,9 +49,9 @@ pub data Answered (a : Call) (x : Cluster) : Type 0 where
 
 pub answered : (a : Call) (x : Cluster) → Reached x → Answered a x
 unfolding settled
-answered a x h = go (opened a x (h .formed))
+answered a x h = go (call-cases a x (h .formed))
   where
-    go : Opened a x → Answered a x
+    go : CallCases a x → Answered a x
     go (denied r m n e) = denied-by r n e
     go (passed b al e) =
         accepted-by al (ap (λ (o : Outcome). o .answer) e ∙ rw (sound-step a (lockIn x (lockOf a)) al (h .invs (lockOf a)) .taken)) (perform-here a x (h .formed) b e)

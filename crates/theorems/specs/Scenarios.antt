@@ -7,12 +7,12 @@ use Prim.Native.Nat.{ℕ}
 use lib.ListN.{set, replicate}
 use Rattle.model.specs.Lists.{padded, removed}
 use Rattle.theorems.specs.Names.{LockId, MachineId, ClientId, Mode, Exclusive, Shared, Owned, Decider, Waiter, Agent, AgentSlot, ToDecider, ToMachine, Message, Free, Acquire, Grant, Release, Packet, Status, Waiting, Holding, ClientState, LockState, Cluster, Call, AcquireCall, ReleaseCall, DeliverCall, LockRange, StillNamed, Answer, Accepted, Refused, locks, machines, clients, carrying, resent, mayJoin, mayShare}
-use Rattle.model.specs.States.{queueOf, waiters, noHolders, newAgent, seated, noAgent, idle, plain, blankPacket, wireOf, packets, freshLock}
+use Rattle.model.specs.States.{queueOf, waiters, noHolders, newAgent, someAgent, noAgent, idle, plain, blankPacket, wireOf, packets, freshLock}
 use Rattle.model.specs.WellFormed.{shaped, isBlankWaiter, distinct, queueFormed, agentFormed, isBlankAgent, slotFormed, messageFormed, packetFormed, isBlankPacket, wireFormed, lockFormed, wellFormed}
 use Rattle.model.specs.Changes.{finish}
-use Rattle.model.specs.Asking.{asks, acquires, handOver, staysIf, releases}
+use Rattle.model.specs.Asking.{clientAsks, clientAcquires, handOver, staysIf, clientReleases}
 use Rattle.model.specs.AtDecider.{toOwner, decidesAcquire, decidesFree, decidesGrant, decides, atDecider}
-use Rattle.model.specs.AtMachine.{admitted, staying, joined, installs, granted, marked, unmarked, acquired, released, returned, arrives, atMachine}
+use Rattle.model.specs.AtMachine.{admitted, staying, joined, installs, grantArrives, marked, unmarked, acquireArrives, releaseArrives, freeArrives, arrives, atMachine}
 use Rattle.model.specs.Refusals.{first}
 use Rattle.model.specs.Calls.{delivers, acquireStep, releaseStep, takes, deliverStep, settled, unless, acquire, release, deliver, perform, run, answersOf}
 
@@ -75,7 +75,7 @@ abbrev nowhere : List AgentSlot
 nowhere = replicate machines noAgent
 
 abbrev on0 : Agent → List AgentSlot
-on0 a = set nowhere 0 (seated a)
+on0 a = set nowhere 0 (someAgent a)
 
 abbrev status : ℕ → Status → List ClientState → List ClientState
 status c st cs = set cs c (record { status = st })
@@ -235,5 +235,5 @@ scenarios =
     ∷ []
 
 pub scenarios-hold : Hold scenarios
-unfolding scenarios run perform acquire release deliver unless settled first wellFormed lockFormed wireFormed packetFormed messageFormed slotFormed agentFormed isBlankAgent isBlankPacket isBlankWaiter queueFormed distinct shaped acquireStep releaseStep deliverStep takes finish delivers atDecider decides decidesAcquire decidesFree decidesGrant toOwner atMachine arrives acquired released returned marked unmarked granted mayShare mayJoin installs admitted staying joined acquires asks releases staysIf handOver padded removed queueOf waiters noAgent blankPacket wireOf packets freshLock
+unfolding scenarios run perform acquire release deliver unless settled first wellFormed lockFormed wireFormed packetFormed messageFormed slotFormed agentFormed isBlankAgent isBlankPacket isBlankWaiter queueFormed distinct shaped acquireStep releaseStep deliverStep takes finish delivers atDecider decides decidesAcquire decidesFree decidesGrant toOwner atMachine arrives acquireArrives releaseArrives freeArrives marked unmarked grantArrives mayShare mayJoin installs admitted staying joined clientAcquires clientAsks clientReleases staysIf handOver padded removed queueOf waiters noAgent blankPacket wireOf packets freshLock
 scenarios-hold = (refl, (refl, (refl, (refl, (refl, (refl, (refl, (refl, (refl, (refl, (refl, (refl, (refl, (refl, (refl, (refl, (refl, (refl, tt))))))))))))))))))

@@ -2,7 +2,7 @@
 use Rattle.theorems.specs.Names.{_≡_, refl, MachineId, ClientId, Mode, Exclusive, Shared, Owner, Unowned, Agent, Address, ToDecider, ToMachine, Message, Free, Acquire, Grant, Release, Packet, Site, LockState, Bool, true, false, and-false, false≢true, List, arith, pick, machines, isShared, Verdict, cannot-place, does, mayJoin, ownedShared, mayShare, and-left, and-right, [], _∷_, _<_}
 use Rattle.theorems.specs.Weights.{farP, fits, fitsP, misfitP}
 use Rattle.theorems.specs.Invariant.{Inv}
-use Rattle.theorems.specs.Keep.{Keeps, Split, same-mark, Still, keep-resent}
+use Rattle.theorems.specs.InvariantStep.{Keeps, Split, same-mark, Still, keep-resent}
 use Rattle.theorems.specs.Facts.{Request, acquire-of, release-of, came-fits}
 
 -- the step can be placed and keeps the invariant

@@ -1,6 +1,6 @@
 -- What holds after every list of acquires, releases and deliveries, with any arguments, that starts from a fresh bench. Only the
 -- statements: Theorems has a proof of each for every list. Locks above 7 and clients above 15 read as fresh ones and as idle.
-use Rattle.laws.specs.Opened.{lockOf}
+use Rattle.laws.specs.CallSteps.{lockOf}
 use Rattle.model.specs.Drain.{allowance, Quiescent, drainCalls, drain}
 use Rattle.model.specs.Trace.{isAccepted, grantsIn}
 use Rattle.theorems.specs.Names.{LockId, ClientId, Mode, Exclusive, Status, Waiting, Holding, Cluster, Call, Answer, Accepted, _≡_, true, List, ℕ, _≤_, _<_, length, eqb, leb, all, statusOf, lockIn, packets, freshLock, fresh, wellFormed, current, packetAt, run, answersOf, after, perform, number, phaseAfter, _+_, _-_, _*_, locks, clients, wireCapacity}

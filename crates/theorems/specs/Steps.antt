@@ -3,12 +3,12 @@ use Rattle.theorems.specs.Names.{MachineId, ClientId, Mode, Address, ToD
 use Rattle.theorems.specs.Tally.{tally-at}
 use Rattle.theorems.specs.Weights.{farM, farA, farP}
 use Rattle.theorems.specs.Invariant.{Inv}
-use Rattle.theorems.specs.Keep.{Split, split-at}
+use Rattle.theorems.specs.InvariantStep.{Split, split-at}
 use Rattle.theorems.specs.Facts.{fit, wire-bound}
 use Rattle.theorems.specs.Sent.{Good}
 use Rattle.theorems.specs.AtDecider.{good-decides}
 use Rattle.theorems.specs.AtMachine.{good-arrives}
-use Rattle.theorems.specs.Clients.{names-none, good-acquires, good-releases}
+use Rattle.theorems.specs.Clients.{names-none, good-client-acquires, good-client-releases}
 
 good-delivers : (r : LockState) (rest : List Packet) (i : Inv r) (p : Packet) (t : Address) → farA t ≡ 0 → Split r (resent p t (p .rejected) ∷ []) rest
     → Good r (machineAt t) (clientNamed (p .message)) rest (delivers t (siteOf r (machineAt t) (clientNamed (p .message))) (resent p t (p .rejected)))
@@ -63,11 +63,11 @@ module _ (k : MachineId) (c : ClientId) where
 
 pub sound-acquire : (r : LockState) (i : Inv r) (c : ClientId) (m : Mode) → c .0 < clients → statusOf r c ≡ Idle → any (names c) (packets (r .wire)) ≡ false → Sound (acquireStep r c m)
 unfolding acquireStep
-sound-acquire r i c m cl id u = sound _ _ _ (packets (r .wire)) r (good-acquires r i c cl id (names-none c (packets (r .wire)) u) m)
+sound-acquire r i c m cl id u = sound _ _ _ (packets (r .wire)) r (good-client-acquires r i c cl id (names-none c (packets (r .wire)) u) m)
 
 pub sound-release : (r : LockState) (i : Inv r) (c : ClientId) (m : Mode) → c .0 < clients → statusOf r c ≡ Holding m → Sound (releaseStep r c)
 unfolding releaseStep
-sound-release r i c m cl ho = sound _ _ _ (packets (r .wire)) r (good-releases r i c cl m ho)
+sound-release r i c m cl ho = sound _ _ _ (packets (r .wire)) r (good-client-releases r i c cl m ho)
 
 pub sound-deliver : (r : LockState) (i : Inv r) (j : ℕ) → j < length (packets (r .wire)) → Sound (deliverStep r j)
 unfolding deliverStep takes

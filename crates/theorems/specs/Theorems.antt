@@ -1,10 +1,10 @@
 -- The proofs of the statements, for every list of calls.
-use Rattle.laws.specs.Opened.{perform-elsewhere}
+use Rattle.laws.specs.CallSteps.{perform-elsewhere}
 use Rattle.theorems.specs.Names.{Packet, LockState, Cluster, Call, Answer, _≡_, refl, sym, ap, _∙_, true, List, [], _∷_, ℕ, _≤_, _<_, arith, length, eqb, leb, eqb-true, eqb-false, eq-eqb, ne-eqb, le-leb, all, removed, statusOf, lockIn, packets, fresh, current, packetAt, answersOf, after, perform, number, unseen, both, bool-cases}
 use Rattle.theorems.specs.Tally.{tally}
 use Rattle.theorems.specs.Weights.{agentS, agentP, incarnationS, incarnationP, markP, fits, misfitP}
 use Rattle.theorems.specs.Invariant.{Inv}
-use Rattle.theorems.specs.Keep.{Split, split-at}
+use Rattle.theorems.specs.InvariantStep.{Split, split-at}
 use Rattle.theorems.specs.Facts.{fit, came-fits, away-of, wire-bound, marks-bound, silent-equal, differ}
 use Rattle.theorems.specs.Fresh.{all-idle}
 use Rattle.theorems.specs.Exclusion.{carried-away, one-exclusive}

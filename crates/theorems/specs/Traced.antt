@@ -1,14 +1,14 @@
 -- The statuses are what the trace says: which client's status each step writes, and as what.
-use Rattle.laws.specs.Opened.{lockOf, stepOf, Allowed, may-acquire, may-release, may-deliver, perform-elsewhere}
-use Rattle.theorems.specs.Names.{LockId, MachineId, ClientId, Mode, Owner, Unowned, Owned, Agent, AgentSlot, Address, ToDecider, ToMachine, Message, Free, Acquire, Grant, Release, Packet, Status, Idle, Waiting, Holding, ClientState, LockState, Cluster, Call, AcquireCall, ReleaseCall, DeliverCall, WireFull, _≡_, refl, sym, ap, _∙_, Bool, true, false, _&&_, not, and-false, List, [], _∷_, ℕ, _+_, _<_, arith, ℕ-discrete, length, getD, set-getD, getD-set-same, getD-set-other, leb, eq-eqb, ne-eqb, pick, any, removed, clientOf, machineOf, modeOf, isShared, seated, agentOn, listed, idle, statusOf, plain, lockIn, noAgent, packets, Verdict, cannot-place, does, Site, siteOf, withSlot, withStatus, apply, accepted, finish, anyHolder, without, staysIf, joining, queuing, noRoom, mayJoin, lists, asks, acquires, releases, current, toOwner, decidesAcquire, decidesFree, decidesGrant, decides, atDecider, installs, granted, marked, unmarked, acquired, released, returned, arrives, atMachine, names, machineAt, clientNamed, packetAt, delivers, acquireStep, releaseStep, takes, deliverStep, perform, run, View, isAccepted, toMachine, isGrantFor, grants, asked, shown, sees, watch, bool-cases, clients, wireCapacity, inParts, mayShare}
+use Rattle.laws.specs.CallSteps.{lockOf, stepOf, Allowed, may-acquire, may-release, may-deliver, perform-elsewhere}
+use Rattle.theorems.specs.Names.{LockId, MachineId, ClientId, Mode, Owner, Unowned, Owned, Agent, AgentSlot, Address, ToDecider, ToMachine, Message, Free, Acquire, Grant, Release, Packet, Status, Idle, Waiting, Holding, ClientState, LockState, Cluster, Call, AcquireCall, ReleaseCall, DeliverCall, WireFull, _≡_, refl, sym, ap, _∙_, Bool, true, false, _&&_, not, and-false, List, [], _∷_, ℕ, _+_, _<_, arith, ℕ-discrete, length, getD, set-getD, getD-set-same, getD-set-other, leb, eq-eqb, ne-eqb, pick, any, removed, clientOf, machineOf, modeOf, isShared, someAgent, agentOn, listed, idle, statusOf, plain, lockIn, noAgent, packets, Verdict, cannot-place, does, Site, siteOf, withSlot, withStatus, apply, accepted, finish, anyHolder, without, staysIf, joining, queuing, noRoom, mayJoin, lists, clientAsks, clientAcquires, clientReleases, current, toOwner, decidesAcquire, decidesFree, decidesGrant, decides, atDecider, installs, grantArrives, marked, unmarked, acquireArrives, releaseArrives, freeArrives, arrives, atMachine, names, machineAt, clientNamed, packetAt, delivers, acquireStep, releaseStep, takes, deliverStep, perform, run, View, isAccepted, toMachine, isGrantFor, showsGrant, afterAcquire, afterGrant, sees, watch, bool-cases, clients, wireCapacity, inParts, mayShare}
 use Rattle.model.specs.Changes.{refused}
 use Rattle.theorems.specs.Tally.{tally, tally-at}
 use Rattle.theorems.specs.Weights.{statusAt, slotAt, weight, askM, waitingP, listedS}
 use Rattle.theorems.specs.Invariant.{Inv}
-use Rattle.theorems.specs.Keep.{Split, split-at, told, untold}
-use Rattle.theorems.specs.Facts.{flag-none, seat-home, waiter-below, hit-self, grant-waits, rejected-carries-one}
+use Rattle.theorems.specs.InvariantStep.{Split, split-at, told, untold}
+use Rattle.theorems.specs.Facts.{flag-none, slot-home, waiter-below, hit-self, grant-waits, rejected-carries-one}
 use Rattle.theorems.specs.Sent.{Good}
-use Rattle.theorems.specs.Clients.{names-none, unlisted, good-acquires, good-releases}
+use Rattle.theorems.specs.Clients.{names-none, unlisted, good-client-acquires, good-client-releases}
 use Rattle.theorems.specs.Steps.{verdict, good-deliver, Says, says-by, after-step}
 use Rattle.theorems.specs.Runs.{Reached, reached-next, Answered, answered, denied-by, accepted-by}
 
@@ -39,20 +39,20 @@ module _ (s : LockState) (i : Inv s) (c : ClientId) (cl : c .0 < clients) (id : 
 
   -- holding exactly where the client's machine lists it now and did not before
   abbrev Now : View → LockState → Type 0
-  Now v t = asked m (lists-home t && not (lists-home s)) v .phase ≡ statusOf t c
+  Now v t = afterAcquire m (lists-home t && not (lists-home s)) v .phase ≡ statusOf t c
 
   abbrev site : Site
   site = siteOf s (machineOf c) c
 
-  good : Good s (machineOf c) c ps (acquires site c m)
-  good = good-acquires s i c cl id (names-none c ps un) m
+  good : Good s (machineOf c) c ps (clientAcquires site c m)
+  good = good-client-acquires s i c cl id (names-none c ps un) m
 
   -- the state after the site's change
   abbrev then : Site → List Packet → LockState
   then v qs = apply (machineOf c) c v qs ps s
 
   -- the phase by the trace where the listing stays as it was, and where the client is listed anew
-  waits-on : (b : Bool) (v : View) → asked m (b && not b) v .phase ≡ Waiting m
+  waits-on : (b : Bool) (v : View) → afterAcquire m (b && not b) v .phase ≡ Waiting m
   waits-on true v = refl
   waits-on false v = refl
 
@@ -69,21 +69,21 @@ module _ (s : LockState) (i : Inv s) (c : ClientId) (cl : c .0 < clients) (id : 
           flag-none (listed h c)
           (omega (arith, unlisted s i c cl id (names-none c ps un), rw e at (tally-at (listedS (c .0)) noAgent (s .agents) (machineOf c .0) (omega (arith, i .all-machines)))))
 
-  module _ (v : View) (h : Agent) (e : agentOn s (machineOf c) ≡ seated h) where
+  module _ (v : View) (h : Agent) (e : agentOn s (machineOf c) ≡ someAgent h) where
     room : machineOf c .0 < length (s .agents)
     room = omega (arith, i .all-machines)
 
-    joined-now : Now v (then (withSlot (withStatus site (Holding m)) (seated (joining h c))) [])
+    joined-now : Now v (then (withSlot (withStatus site (Holding m)) (someAgent (joining h c))) [])
     joined-now =
-        let hl : c .0 < length (h .holders) = omega (arith, seat-home s (machineOf c .0) h i e .sized) in
-        let on : lists-home (then (withSlot (withStatus site (Holding m)) (seated (joining h c))) []) ≡ true =
-        ap (λ (x : AgentSlot). lists x c) (getD-set-same (s .agents) (machineOf c .0) (seated (joining h c)) noAgent room) ∙ getD-set-same (h .holders) (c .0) true false hl in
+        let hl : c .0 < length (h .holders) = omega (arith, slot-home s (machineOf c .0) h i e .sized) in
+        let on : lists-home (then (withSlot (withStatus site (Holding m)) (someAgent (joining h c))) []) ≡ true =
+        ap (λ (x : AgentSlot). lists x c) (getD-set-same (s .agents) (machineOf c .0) (someAgent (joining h c)) noAgent room) ∙ getD-set-same (h .holders) (c .0) true false hl in
         rw (on, not-listed) (sym (now (Holding m)))
 
-    queued-now : Now v (then (withSlot (withStatus site (Waiting m)) (seated (queuing h c m))) [])
+    queued-now : Now v (then (withSlot (withStatus site (Waiting m)) (someAgent (queuing h c m))) [])
     queued-now =
-        let same : lists-home (then (withSlot (withStatus site (Waiting m)) (seated (queuing h c m))) []) ≡ lists-home s =
-        ap (λ (x : AgentSlot). lists x c) (getD-set-same (s .agents) (machineOf c .0) (seated (queuing h c m)) noAgent room) ∙ sym (ap (λ (x : AgentSlot). lists x c) e) in
+        let same : lists-home (then (withSlot (withStatus site (Waiting m)) (someAgent (queuing h c m))) []) ≡ lists-home s =
+        ap (λ (x : AgentSlot). lists x c) (getD-set-same (s .agents) (machineOf c .0) (someAgent (queuing h c m)) noAgent room) ∙ sym (ap (λ (x : AgentSlot). lists x c) e) in
         rw same (waits-on (lists-home s) v ∙ sym (now (Waiting m)))
 
   sent-now : (v : View) → Now v (then (withStatus site (Waiting m)) (plain (Acquire c m false) ToDecider ∷ []))
@@ -91,33 +91,33 @@ module _ (s : LockState) (i : Inv s) (c : ClientId) (cl : c .0 < clients) (id : 
       let same : lists-home (then (withStatus site (Waiting m)) (plain (Acquire c m false) ToDecider ∷ [])) ≡ lists-home s = ap (λ (xs : List AgentSlot). lists (getD xs (machineOf c .0) noAgent) c) (set-getD (s .agents) (machineOf c .0) noAgent) in
       rw same (waits-on (lists-home s) v ∙ sym (now (Waiting m)))
 
-  acquire-now : (v : View) → Says (λ w qs. Now v (then w qs)) (acquires site c m)
-  unfolding acquires asks
+  acquire-now : (v : View) → Says (λ w qs. Now v (then w qs)) (clientAcquires site c m)
+  unfolding clientAcquires clientAsks
   acquire-now v = go (agentOn s (machineOf c) .present) (agentOn s (machineOf c) .agent) refl
     where
-      go : (y : Bool) (h : Agent) → agentOn s (machineOf c) ≡ record { present = y; agent = h } → Says (λ w qs. Now v (then w qs)) (asks site c m y h)
+      go : (y : Bool) (h : Agent) → agentOn s (machineOf c) ≡ record { present = y; agent = h } → Says (λ w qs. Now v (then w qs)) (clientAsks site c m y h)
       go false h e = sent-now v
       go true h e =
           bool-cases (mayJoin site m) (λ q. rw q (joined-now v h e)) (λ q. bool-cases (noRoom h c) (λ z. rw (q, z) tt) (λ z. rw (q, z) (queued-now v h e)))
 
   pub acquired-now : (v : View) → Now v (acquireStep s c m .state)
   unfolding acquireStep
-  acquired-now v = after-step (machineOf c) c (λ w qs. Now v (then w qs)) (Now v) (acquires site c m) ps s good (acquire-now v) (λ w qs p. p)
+  acquired-now v = after-step (machineOf c) c (λ w qs. Now v (then w qs)) (Now v) (clientAcquires site c m) ps s good (acquire-now v) (λ w qs p. p)
 
 pub acquired-other : (s : LockState) (c : ClientId) (m : Mode) (d : ClientId) → (d .0 ≡ c .0 → ⊥) → statusOf (acquireStep s c m .state) d ≡ statusOf s d
 unfolding acquireStep
 acquired-other s c m d n = finish-other _ c _ _ s d n
 
 -- ---- release
-release-idle : (v : Site) (c : ClientId) → Says (λ w qs. w .status ≡ Idle) (releases v c)
-unfolding releases staysIf
+release-idle : (v : Site) (c : ClientId) → Says (λ w qs. w .status ≡ Idle) (clientReleases v c)
+unfolding clientReleases staysIf
 release-idle v c =
     bool-cases (lists (v .slot) c) (λ q. rw q (bool-cases (anyHolder (without (v .slot .agent) c)) (λ z. rw z refl) (λ z. rw z refl))) (λ q. rw q refl)
 
 pub released-now : (s : LockState) (i : Inv s) (c : ClientId) (cl : c .0 < clients) (m : Mode) → statusOf s c ≡ Holding m → statusOf (releaseStep s c .state) c ≡ Idle
 unfolding releaseStep
 released-now s i c cl m ho =
-    after-step (machineOf c) c (λ w qs. w .status ≡ Idle) (λ t. statusOf t c ≡ Idle) _ (packets (s .wire)) s (good-releases s i c cl m ho) (release-idle _ c)
+    after-step (machineOf c) c (λ w qs. w .status ≡ Idle) (λ t. statusOf t c ≡ Idle) _ (packets (s .wire)) s (good-client-releases s i c cl m ho) (release-idle _ c)
     (λ w qs p. told-self s c (w .status) (i .all-clients) cl ∙ p)
 
 pub released-other : (s : LockState) (c : ClientId) (d : ClientId) → (d .0 ≡ c .0 → ⊥) → statusOf (releaseStep s c .state) d ≡ statusOf s d
@@ -154,42 +154,42 @@ module _ (v : Site) where
       go true Unowned = tt
       go true (Owned n k) = says-by Quiet (current (v .decider) p) _ _ refl refl
 
-  acquired-quiet : (y : Bool) (h : Agent) (p : Packet) (c : ClientId) (m : Mode) (g : Bool) → Says Quiet (acquired y v h p c m g)
-  unfolding acquired marked unmarked
-  acquired-quiet false h p c m g = refl
-  acquired-quiet true h p c m true = says-by Quiet (isShared (h .mode)) _ _ refl tt
-  acquired-quiet true h p c m false = says-by Quiet (mayJoin v m) _ _ refl (says-by Quiet (noRoom h c) _ _ tt refl)
+  acquire-quiet : (y : Bool) (h : Agent) (p : Packet) (c : ClientId) (m : Mode) (g : Bool) → Says Quiet (acquireArrives y v h p c m g)
+  unfolding acquireArrives marked unmarked
+  acquire-quiet false h p c m g = refl
+  acquire-quiet true h p c m true = says-by Quiet (isShared (h .mode)) _ _ refl tt
+  acquire-quiet true h p c m false = says-by Quiet (mayJoin v m) _ _ refl (says-by Quiet (noRoom h c) _ _ tt refl)
 
-  released-quiet : (p : Packet) (c : ClientId) → Says Quiet (released v p c)
-  unfolding released staysIf
-  released-quiet p c =
+  release-quiet : (p : Packet) (c : ClientId) → Says Quiet (releaseArrives v p c)
+  unfolding releaseArrives staysIf
+  release-quiet p c =
       bool-cases (lists (v .slot) c) (λ q. rw q (bool-cases (anyHolder (without (v .slot .agent) c)) (λ z. rw z refl) (λ z. rw z refl))) (λ q. rw q refl)
 
-  returned-quiet : (y : Bool) (x : AgentSlot) → Says Quiet (returned y v x)
-  unfolding returned
-  returned-quiet true x = tt
-  returned-quiet false x = refl
+  free-quiet : (y : Bool) (x : AgentSlot) → Says Quiet (freeArrives y v x)
+  unfolding freeArrives
+  free-quiet true x = tt
+  free-quiet false x = refl
 
-  granted-tells : (k : MachineId) (y x b : Bool) (a : Agent) (c : ClientId) (m : Mode) → (x ≡ false → b ≡ true → ⊥) → Says (Tells (ToMachine k) (Grant c m) b v) (granted y x b v a c m)
-  unfolding granted installs
-  granted-tells k y false false a c m n = refl
-  granted-tells k y false true a c m n = absurd (n refl refl)
-  granted-tells k true true b a c m n = tt
-  granted-tells k false true false a c m n = refl
-  granted-tells k false true true a c m n = bool-cases (noRoom a c) (λ z. rw z tt) (λ z. rw z refl)
+  grant-tells : (k : MachineId) (y x b : Bool) (a : Agent) (c : ClientId) (m : Mode) → (x ≡ false → b ≡ true → ⊥) → Says (Tells (ToMachine k) (Grant c m) b v) (grantArrives y x b v a c m)
+  unfolding grantArrives installs
+  grant-tells k y false false a c m n = refl
+  grant-tells k y false true a c m n = absurd (n refl refl)
+  grant-tells k true true b a c m n = tt
+  grant-tells k false true false a c m n = refl
+  grant-tells k false true true a c m n = bool-cases (noRoom a c) (λ z. rw z tt) (λ z. rw z refl)
 
   delivers-tells : (p : Packet) (t : Address) (m : Message) (b x : Bool) → (x ≡ false → b ≡ true → ⊥) → Says (Tells t m b v) (delivers t v (inParts m t b x p))
   unfolding delivers atDecider atMachine arrives
   delivers-tells p ToDecider m b x n = decider-quiet m (v .decider .owner) _
-  delivers-tells p (ToMachine k) (Acquire c m g) b x n = acquired-quiet (v .slot .present) (v .slot .agent) _ c m g
-  delivers-tells p (ToMachine k) (Release c) b x n = released-quiet _ c
-  delivers-tells p (ToMachine k) Free b x n = returned-quiet (v .slot .present) _
-  delivers-tells p (ToMachine k) (Grant c m) b x n = granted-tells k (v .slot .present) x b (p .carried .agent) c m n
+  delivers-tells p (ToMachine k) (Acquire c m g) b x n = acquire-quiet (v .slot .present) (v .slot .agent) _ c m g
+  delivers-tells p (ToMachine k) (Release c) b x n = release-quiet _ c
+  delivers-tells p (ToMachine k) Free b x n = free-quiet (v .slot .present) _
+  delivers-tells p (ToMachine k) (Grant c m) b x n = grant-tells k (v .slot .present) x b (p .carried .agent) c m n
 
 module _ (s : LockState) (i : Inv s) (rest : List Packet) (c : ClientId) where
   -- the phase by the trace, where the packet that is delivered has these parts
   abbrev Seen : Address → Message → Bool → View → Status → Type 0
-  Seen t m b v st = pick (toMachine t && (isGrantFor c m && not b)) (shown v) v .phase ≡ st
+  Seen t m b v st = pick (toMachine t && (isGrantFor c m && not b)) (afterGrant v) v .phase ≡ st
 
   quiet-seen : (v : View) → v .phase ≡ statusOf s c → (d : ClientId) (st : Status) → st ≡ statusOf s d → v .phase ≡ told s d st (c .0)
   quiet-seen v e d st q = e ∙ sym (rw q (untold s d (c .0)))
@@ -213,7 +213,7 @@ module _ (s : LockState) (i : Inv s) (rest : List Packet) (c : ClientId) where
       go (no q) = rw (ne-eqb (c .0) (d .0) q) (e ∙ sym (told-other s d (w .status) c q))
 
 pub delivered-now : (s : LockState) (i : Inv s) (j : ℕ) → j < length (packets (s .wire)) → (c : ClientId) (v : View) → v .phase ≡ statusOf s c
-    → pick (grants c (packetAt s j)) (shown v) v .phase ≡ statusOf (deliverStep s j .state) c
+    → pick (showsGrant c (packetAt s j)) (afterGrant v) v .phase ≡ statusOf (deliverStep s j .state) c
 unfolding deliverStep takes
 delivered-now s i j h c v e =
     let p : Packet = packetAt s j in

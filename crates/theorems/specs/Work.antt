@@ -3,7 +3,7 @@ use Rattle.theorems.specs.Names.{MachineId, ClientId, Mode, Exclusive, S
 use Rattle.theorems.specs.Tally.{flag, gate, tally, tally-at, tally-le, tally-le-at, tally-add, tally-zero, tally-length, sumTo, sum-swap, sum-le, sum-ext, sum-add, sum-one}
 use Rattle.theorems.specs.Weights.{statusAt, slotAt, weight, one, hit, hitW, askM, queuedS, waitingP, markM, listedS, listedP, owedM, owedP, releaseM, releaseP, agentS, agentP, heads, waitF, holdF, misfitS, fits, fitsP, misfitP}
 use Rattle.theorems.specs.Invariant.{Inv}
-use Rattle.theorems.specs.Keep.{packets-after, Split}
+use Rattle.theorems.specs.InvariantStep.{packets-after, Split}
 use Rattle.theorems.specs.Facts.{fit, named-of, away-of, home-of, far-idle, farW, far-none, hits, statuses, owned-one}
 use Rattle.theorems.specs.Exclusion.{carried-away}
 
@@ -188,21 +188,21 @@ module _ (r : LockState) (i : Inv r) where
   unfolding weight
   far-carried = far-slots (λ p. p .carried) ps (λ d m h. omega (arith, far-queues d m h, tally-add (λ p. askM d m (p .message)) (λ p. queuedS d m (p .carried)) ps))
 
-  far-seated : tally farS (r .agents) ≡ 0
+  far-on-machines : tally farS (r .agents) ≡ 0
   unfolding weight
-  far-seated = far-slots (λ x. x) (r .agents) (λ d m h. omega (arith, far-queues d m h))
+  far-on-machines = far-slots (λ x. x) (r .agents) (λ d m h. omega (arith, far-queues d m h))
 
   home-sized : (k : ℕ) → slotAt r k .present ≡ true → length (slotAt r k .agent .holders) ≡ clients
   unfolding misfitS
   home-sized k q = home-of (r .decider .owner) k (slotAt r k .agent) (rw q at (i .homes k)) .sized
 
-  seats-work : tally workS (r .agents) ≤ 7 * tally (λ x. sumTo clients (λ d. queueD d x)) (r .agents) + 3 * tally (λ x. sumTo clients (λ d. listedS d x)) (r .agents)
-  seats-work =
+  slots-work : tally workS (r .agents) ≤ 7 * tally (λ x. sumTo clients (λ d. queueD d x)) (r .agents) + 3 * tally (λ x. sumTo clients (λ d. listedS d x)) (r .agents)
+  slots-work =
       let share : AgentSlot → ℕ = λ x. 7 * sumTo clients (λ d. queueD d x) + 3 * sumTo clients (λ d. listedS d x) in
       let z : AgentSlot → ℕ = λ x. 0 in
       omega (
         arith,
-        tally-le-at workS share noAgent (r .agents) (λ k h. slot-work (slotAt r k) (home-sized k) (omega (arith, far-seated, tally-at farS noAgent (r .agents) k h))),
+        tally-le-at workS share noAgent (r .agents) (λ k h. slot-work (slotAt r k) (home-sized k) (omega (arith, far-on-machines, tally-at farS noAgent (r .agents) k h))),
         tally-bound z share z z (λ x. sumTo clients (λ d. queueD d x)) (λ x. sumTo clients (λ d. listedS d x)) z (λ x e. omega arith) (r .agents) (tally-zero (r .agents)),
         tally-zero (r .agents),
       )
@@ -246,7 +246,7 @@ module _ (r : LockState) (i : Inv r) where
       omega (
         arith,
         wire-work,
-        seats-work,
+        slots-work,
         clients-work,
         sum-bound clients waitsOf listsOf (λ d. tally (releaseP d) ps) holdsOf (λ d. tally (owedP d) ps) each-client,
         sum-add clients (λ d. tally (waitD d) ps) (λ d. tally (queueD d) (r .agents)),

@@ -27,7 +27,7 @@ use Rattle.model.specs.Changes.{refused}
 use Rattle.model.specs.Calls.{perform}
 use Rattle.model.specs.Transcripts.{short, acquireAt, releaseAt, deliverAt, wholeRecord, readRecord, replayed, replayFrom, replayUnless, replay}
 use Rattle.laws.specs.Tests.{and-right}
-use Rattle.laws.specs.Opened.{lockOf}
+use Rattle.laws.specs.CallSteps.{lockOf}
 use Rattle.laws.specs.Clusters.{perform-formed}
 use Rattle.engine.specs.Within.{callWithin, lock-read, perform-range, writtenBy, perform-written, written-formed}
 

@@ -19,8 +19,8 @@ pub fn release(cluster: &mut Cluster, machine: u8, task: u8) -> u8 {
     answer(cluster.release(LOCK, MachineId(machine), TaskId(task)))
 }
 
-pub fn deliver(cluster: &mut Cluster, place: u8) -> u8 {
-    answer(cluster.deliver(LOCK, place))
+pub fn deliver(cluster: &mut Cluster, index: u8) -> u8 {
+    answer(cluster.deliver(LOCK, index))
 }
 
 pub fn answer(outcome: Outcome) -> u8 {

@@ -4,7 +4,7 @@ use Rattle.rules.proofs.leaving.leave.Tie as tie
 
 returns : tie.Need-returns
 unfolding staysIf
-returns c = rw (c .doing .ensures, c .before .no-packet .ensures, c .before .before .with-slot .ensures, c .before .before .before .seat .ensures, ← c .before .before .before .before .before .before .set-holder .ensures, ← c .before .before .before .before .before .any-holder .ensures, c .before .before .before .before .if1 .taken)
+returns c = rw (c .doing .ensures, c .before .no-packet .ensures, c .before .before .with-slot .ensures, c .before .before .before .some-agent .ensures, ← c .before .before .before .before .before .before .set-holder .ensures, ← c .before .before .before .before .before .any-holder .ensures, c .before .before .before .before .if1 .taken)
 
 returns-2 : tie.Need-returns-2
 unfolding staysIf

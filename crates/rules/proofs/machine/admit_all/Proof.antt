@@ -1,4 +1,4 @@
-use Rattle.rules.proofs.Base.{_≡_, refl, sym, _∙_, _+_, _-_, _≤_, arith, length, take, drop, needs, queueCapacity, blankWaiter, opened, closed, Room, admits, admits-none, admits-next, room-next}
+use Rattle.rules.proofs.Base.{_≡_, refl, sym, _∙_, _+_, _-_, _≤_, arith, length, take, drop, needs, queueCapacity, blankWaiter, used-more, used-end, Room, admits, admits-none, admits-next, room-next}
 use Rattle.rules.proofs.machine.admit_all.Statement.{statement}
 use Rattle.rules.proofs.machine.admit_all.Tie as tie
 
@@ -18,7 +18,7 @@ loop-again c =
     let s = c .before .before .before .before .args in
     let l = c .before .before .before .loop in
     let n : length (s .t2) ≡ queueCapacity = search needs in
-    let o = opened (s .t2) (s .n) (l .j) blankWaiter (omega arith) (omega arith) in
+    let o = used-more (s .t2) (s .n) (l .j) blankWaiter (omega arith) (omega arith) in
     let m : s .n - l .j ≡ 1 + (s .n - (l .j + 1)) = omega arith in
     (rw (c .admit .ensures) (admits-next (l .t) _ _ ∙ rw o at (l .inv .0)), (rw (c .admit .ensures) (room-next (l .t) _ _ (rw m at (l .inv .1 .0))), omega arith))
 
@@ -28,7 +28,7 @@ returns c =
     let l = c .before .loop in
     let n : length (s .t2) ≡ queueCapacity = search needs in
     let m : s .n - l .j ≡ 0 = omega arith in
-    sym (admits-none (l .t) (rw m at (l .inv .1 .0))) ∙ rw (closed (s .t2) (s .n) (l .j) blankWaiter (omega arith) (omega arith)) at (l .inv .0)
+    sym (admits-none (l .t) (rw m at (l .inv .1 .0))) ∙ rw (used-end (s .t2) (s .n) (l .j) blankWaiter (omega arith) (omega arith)) at (l .inv .0)
 
 pub admit-all-spec : {M : Type 1} → statement M
 admit-all-spec = tie.close (tie.spec Inv-loop μ-loop loop-holds (λ c. search needs) (λ c. search needs) (λ c κs. search needs) (λ c. search needs) (λ c. search needs) loop-again returns)

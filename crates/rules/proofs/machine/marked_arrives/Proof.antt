@@ -4,7 +4,7 @@ use Rattle.rules.proofs.machine.marked_arrives.Tie as tie
 
 returns : tie.Need-returns
 unfolding marked
-returns c = rw (c .doing .ensures, c .before .no-packet .ensures, c .before .before .with-slot .ensures, c .before .before .before .seat .ensures, c .before .before .before .before .wrapping-add-u8 .ensures, c .before .before .before .before .before .join .ensures, ← c .before .before .before .before .before .before .before .is-shared .ensures, c .before .before .before .before .before .before .if1 .taken)
+returns c = rw (c .doing .ensures, c .before .no-packet .ensures, c .before .before .with-slot .ensures, c .before .before .before .some-agent .ensures, c .before .before .before .before .wrapping-add-u8 .ensures, c .before .before .before .before .before .join .ensures, ← c .before .before .before .before .before .before .before .is-shared .ensures, c .before .before .before .before .before .before .if1 .taken)
 
 returns-2 : tie.Need-returns-2
 unfolding marked

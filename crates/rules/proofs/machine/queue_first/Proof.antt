@@ -9,7 +9,7 @@ returns : tie.Need-returns
 returns c = rw (c .cannot-place .ensures, ← c .before .before .no-room .ensures, c .before .if1 .taken)
 
 returns-2 : tie.Need-returns-2
-returns-2 c = rw (c .doing .ensures, c .before .no-packet .ensures, c .before .before .with-slot .ensures, c .before .before .before .seat .ensures, c .before .before .before .before .push-front .ensures, ← c .before .before .before .before .before .before .no-room .ensures, c .before .before .before .before .before .if1 .left)
+returns-2 c = rw (c .doing .ensures, c .before .no-packet .ensures, c .before .before .with-slot .ensures, c .before .before .before .some-agent .ensures, c .before .before .before .before .push-front .ensures, ← c .before .before .before .before .before .before .no-room .ensures, c .before .before .before .before .before .if1 .left)
 
 pub queue-first-spec : {M : Type 1} → statement M
 queue-first-spec = tie.close (tie.spec (λ c κs. search needs) (λ c κs. search needs) push-front-requires (λ c κs. search needs) (λ c κs. search needs) (λ c κs. search needs) (λ c κs. search needs) returns returns-2)

@@ -4,7 +4,7 @@ use Rattle.rules.proofs.machine.unmarked_arrives.Tie as tie
 
 returns : tie.Need-returns
 unfolding unmarked
-returns c = rw (c .doing .ensures, c .before .one-packet .ensures, c .before .before .with-slot .ensures, c .before .before .before .plain-packet .ensures, c .before .before .before .before .seat .ensures, c .before .before .before .before .before .join .ensures, ← c .before .before .before .before .before .before .before .may-join .ensures, c .before .before .before .before .before .before .if1 .taken)
+returns c = rw (c .doing .ensures, c .before .one-packet .ensures, c .before .before .with-slot .ensures, c .before .before .before .plain-packet .ensures, c .before .before .before .before .some-agent .ensures, c .before .before .before .before .before .join .ensures, ← c .before .before .before .before .before .before .before .may-join .ensures, c .before .before .before .before .before .before .if1 .taken)
 
 returns-2 : tie.Need-returns-2
 unfolding unmarked

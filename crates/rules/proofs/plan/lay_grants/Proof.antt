@@ -1,4 +1,4 @@
-use Rattle.rules.proofs.Base.{_≡_, _∙_, map, _+_, _-_, _≤_, arith, length, take, drop, length-set, sets, needs, blankWaiter, opened, closed, grantOf, add-one, queueCapacity, wireCapacity}
+use Rattle.rules.proofs.Base.{_≡_, _∙_, map, _+_, _-_, _≤_, arith, length, take, drop, length-set, sets, needs, blankWaiter, used-more, used-end, grantOf, add-one, queueCapacity, wireCapacity}
 use Rattle.rules.proofs.plan.lay_grants.Statement.{statement}
 use Rattle.rules.proofs.plan.lay_grants.Tie as tie
 
@@ -21,7 +21,7 @@ loop-again c =
     let s = b .before .before .args in
     let l = b .before .loop in
     let n : length (s .t3) ≡ queueCapacity = search needs in
-    let o = opened (s .t3) (s .m) (l .j) blankWaiter (omega arith) (omega arith) in
+    let o = used-more (s .t3) (s .m) (l .j) blankWaiter (omega arith) (omega arith) in
     let e : s .n + (l .j + 1) ≡ (s .n + l .j) + 1 = omega arith in
     (rw (c .plain-packet .ensures, e, add-one) (rw o at (l .inv .0)), (length-set (l .b) _ _ ∙ l .inv .1 .0, omega arith))
 
@@ -30,7 +30,7 @@ returns c =
     let s = c .before .before .args in
     let l = c .before .loop in
     let n : length (s .t3) ≡ queueCapacity = search needs in
-    rw (closed (s .t3) (s .m) (l .j) blankWaiter (omega arith) (omega arith)) at (l .inv .0)
+    rw (used-end (s .t3) (s .m) (l .j) blankWaiter (omega arith) (omega arith)) at (l .inv .0)
 
 pub lay-grants-spec : {M : Type 1} → statement M
 lay-grants-spec = tie.close (tie.spec Inv-loop μ-loop loop-holds (λ c. search needs) (λ c. search needs) (λ c κs. search needs) (λ c. search needs) (λ c. search needs) (λ c. search needs) (λ c. search needs) (λ c. search needs) loop-again returns)

@@ -9,17 +9,17 @@ use lib.Dec.{leb}
 use borrow.Author.Tests.{eq-eqb, lt-ltb, leb-true, leb-false}
 use Rattle.model.specs.Lists.{pick, any, all, removed}
 use Rattle.laws.specs.Names.{MachineId, ClientId, Mode, Shared, Owner, Unowned, Owned, Waiter, Agent, AgentSlot, Address, ToDecider, ToMachine, Message, Free, Acquire, Grant, Release, Packet, Idle, Waiting, Site, LockState, WireFull}
-use Rattle.model.specs.States.{resent, queueOf, waiters, packets, seated, newAgent, machineOf, isShared, machines, clients, queueCapacity, wireCapacity}
+use Rattle.model.specs.States.{resent, queueOf, waiters, packets, someAgent, newAgent, machineOf, isShared, machines, clients, queueCapacity, wireCapacity}
 use Rattle.model.specs.WellFormed.{clientInRange, ownerInRange, addressInRange, isClient, waiterInRange, slotFormed, messageFormed, packetFormed, lockFormed}
 use Rattle.model.specs.Changes.{siteOf, withSlot, withStatus, Verdict, cannot-place, does, apply, accepted, refused, finish}
-use Rattle.model.specs.Asking.{changed, queuing, noRoom, withRoom, mayJoin, asks, acquires, anyHolder, without, handOver, staysIf, leaves, lists, releases}
+use Rattle.model.specs.Asking.{changed, queuing, noRoom, withRoom, mayJoin, clientAsks, clientAcquires, anyHolder, without, handOver, staysIf, leaves, lists, clientReleases}
 use Rattle.model.specs.AtDecider.{toOwner, grantsWith, mayShare, decidesAcquire, current, decidesFree, decidesGrant, decides, atDecider}
-use Rattle.model.specs.AtMachine.{sentBack, admitted, joined, grantOf, requeued, installs, granted, marked, unmarked, acquired, released, returned, arrives, atMachine}
+use Rattle.model.specs.AtMachine.{sentBack, admitted, joined, grantOf, requeued, installs, grantArrives, marked, unmarked, acquireArrives, releaseArrives, freeArrives, arrives, atMachine}
 use Rattle.model.specs.Calls.{delivers, packetAt, acquireStep, releaseStep, takes, deliverStep}
 use Rattle.laws.specs.Tests.{and-left, and-right, both, or-left, or-right}
 use Rattle.laws.specs.Lists.{all-append, all-removed, all-set, left-out, whole, sublist-all}
 use Rattle.laws.specs.Formed.{Fit, fit, new-fit, no-agent-formed, Whole, Parts, parts, agent-on, packet-at, inParts}
-use Rattle.laws.specs.Making.{machine-in-range, Line, line, line-sublist, line-end, line-front, queue-formed, fit-holder, seated-formed, packet-formed, plain-whole, carrying-whole, resent-whole, wire-formed}
+use Rattle.laws.specs.Making.{machine-in-range, Line, line, line-sublist, line-end, line-front, queue-formed, fit-holder, some-agent-formed, packet-formed, plain-whole, carrying-whole, resent-whole, wire-formed}
 use Rattle.laws.specs.Parting.{parting, sublists, length-joined}
 
 -- every packet sent is well formed
@@ -37,10 +37,10 @@ pub data Sound : Verdict → Type 0 where
   keeps : {v : Site} {qs : List Packet} → ownerInRange (v .decider .owner) ≡ true → slotFormed (v .slot) ≡ true → Sends qs → Sound (does v qs)
 
 module _ (s : LockState) (k : MachineId) (c : ClientId) where
-  pub kept-by : (v : Site) (qs rest : List Packet) → Parts s → all packetFormed rest ≡ true → Sound (does v qs) → length rest + length qs ≤ wireCapacity
+  pub apply-formed : (v : Site) (qs rest : List Packet) → Parts s → all packetFormed rest ≡ true → Sound (does v qs) → length rest + length qs ≤ wireCapacity
       → lockFormed (apply k c v qs rest s) ≡ true
   unfolding lockFormed
-  kept-by v qs rest f g (keeps o x e) h =
+  apply-formed v qs rest f g (keeps o x e) h =
       let all-machines : length (set (s .agents) (k .0) (v .slot)) ≡ machines = length-set (s .agents) _ _ ∙ f .all-machines in
       let all-clients : length (set (s .clients) (c .0) (record { status = v .status })) ≡ clients = length-set (s .clients) _ _ ∙ f .all-clients in
       rw (o, eq-eqb _ machines all-machines, all-set slotFormed (s .agents) (k .0) (v .slot) (f .agents) x, eq-eqb _ clients all-clients)
@@ -52,7 +52,7 @@ module _ (s : LockState) (k : MachineId) (c : ClientId) where
   finish-formed (does v qs) rest f g q = go (leb (length rest + length qs) wireCapacity) refl
     where
       go : (b : Bool) → leb (length rest + length qs) wireCapacity ≡ b → lockFormed (pick b (accepted (apply k c v qs rest s)) (refused WireFull s) .state) ≡ true
-      go true e = kept-by v qs rest (parts s f) g q (leb-true (length rest + length qs) wireCapacity e)
+      go true e = apply-formed v qs rest (parts s f) g q (leb-true (length rest + length qs) wireCapacity e)
       go false e = f
 
 -- a rule that chooses by a test
@@ -98,16 +98,16 @@ module _ (v : Site) (f : Set v) where
   module _ (a : Agent) (q : Fit a) (c : ClientId) (m : Mode) (h : clientInRange c ≡ true) where
     -- the queue becomes ws, where there is room for the client
     sound-queue : (ws : List Waiter) → (any (isClient c) (waiters (a .queue)) ≡ false → length (waiters (a .queue)) < queueCapacity → Line ws)
-        → Sound (withRoom a c (does (withSlot v (seated (changed a (a .holders) (queueOf ws) (a .incarnation)))) []))
+        → Sound (withRoom a c (does (withSlot v (someAgent (changed a (a .holders) (queueOf ws) (a .incarnation)))) []))
     sound-queue ws g =
         let old = any (isClient c) (waiters (a .queue)) in
         choice (noRoom a c) (λ e. refuses)
-        (λ e. keeps (f .owner) (seated-formed (record { all-clients = q .all-clients; queue = queue-formed (g (or-left old _ e) (leb-false queueCapacity _ (or-right old _ e))) })) none)
+        (λ e. keeps (f .owner) (some-agent-formed (record { all-clients = q .all-clients; queue = queue-formed (g (or-left old _ e) (leb-false queueCapacity _ (or-right old _ e))) })) none)
 
-    sound-queuing : Sound (withRoom a c (does (withSlot v (seated (queuing a c m))) []))
+    sound-queuing : Sound (withRoom a c (does (withSlot v (someAgent (queuing a c m))) []))
     sound-queuing = sound-queue _ (line-end (line (a .queue) (q .queue)) (record { client = c; mode = m }) h)
 
-    sound-requeued : Sound (withRoom a c (does (withSlot v (seated (requeued a c m))) []))
+    sound-requeued : Sound (withRoom a c (does (withSlot v (someAgent (requeued a c m))) []))
     sound-requeued = sound-queue _ (line-front (line (a .queue) (q .queue)) (record { client = c; mode = m }) h)
 
     sound-installs : Sound (installs v c m a)
@@ -116,14 +116,14 @@ module _ (v : Site) (f : Set v) where
         let l = line (a .queue) (q .queue) in
         let ws = waiters (a .queue) in
         let n : length (joined (set (a .holders) (c .0) true) (admitted m ws)) ≡ clients = length-joined (set (a .holders) (c .0) true) (admitted m ws) ∙ (length-set (a .holders) (c .0) true ∙ q .all-clients) in
-        keeps (f .owner) (seated-formed (record { all-clients = n; queue = queue-formed (line-sublist (sublists (parting m ws) .1) l) })) (grants-sent (admitted m ws) (sublist-all waiterInRange (sublists (parting m ws) .0) (l .ranged)))
+        keeps (f .owner) (some-agent-formed (record { all-clients = n; queue = queue-formed (line-sublist (sublists (parting m ws) .1) l) })) (grants-sent (admitted m ws) (sublist-all waiterInRange (sublists (parting m ws) .0) (l .ranged)))
 
   sound-leaves : (a : Agent) (c : ClientId) → Fit a → Sound (leaves v a c)
   unfolding staysIf
   sound-leaves a c q = go (anyHolder (without a c))
     where
       go : (b : Bool) → Sound (staysIf b v a (without a c))
-      go true = keeps (f .owner) (seated-formed (fit-holder q (c .0) false (a .incarnation))) none
+      go true = keeps (f .owner) (some-agent-formed (fit-holder q (c .0) false (a .incarnation))) none
       go false = keeps (f .owner) no-agent-formed (more (hand-over a (without a c) (waiters (a .queue)) (length-set (a .holders) (c .0) false ∙ q .all-clients) (line (a .queue) (q .queue))) none)
 
   -- at the decider: sent on, or granted with an agent
@@ -151,31 +151,31 @@ module _ (v : Site) (f : Set v) where
   sound-decides-acquire (Owned n k) p c m true h w i = sound-to-owner (Owned n k) p w i
 
   -- at a machine: sent back, or taken
-  sound-granted : (here b r : Bool) (a : Agent) (c : ClientId) (m : Mode) → Fit a → clientInRange c ≡ true → Sound (granted here b r v a c m)
-  unfolding granted
-  sound-granted here false r a c m q h = keeps (f .owner) (f .slot) none
-  sound-granted true true r a c m q h = refuses
-  sound-granted false true false a c m q h = sound-installs a q c m h
-  sound-granted false true true a c m q h = sound-requeued a q c m h
+  sound-grant-arrives : (here b r : Bool) (a : Agent) (c : ClientId) (m : Mode) → Fit a → clientInRange c ≡ true → Sound (grantArrives here b r v a c m)
+  unfolding grantArrives
+  sound-grant-arrives here false r a c m q h = keeps (f .owner) (f .slot) none
+  sound-grant-arrives true true r a c m q h = refuses
+  sound-grant-arrives false true false a c m q h = sound-installs a q c m h
+  sound-grant-arrives false true true a c m q h = sound-requeued a q c m h
 
-  sound-acquired : (here : Bool) (a : Agent) (p : Packet) (c : ClientId) (m : Mode) (g : Bool) → Fit a → clientInRange c ≡ true → Whole (sentBack p)
-      → Sound (acquired here v a p c m g)
-  unfolding acquired marked unmarked messageFormed
-  sound-acquired false a p c m g q h w = sound-sends (more w none)
-  sound-acquired true a p c m true q h w = choice (isShared (a .mode)) (λ e. keeps (f .owner) (seated-formed (fit-holder q (c .0) true _)) none) (λ e. refuses)
-  sound-acquired true a p c m false q h w =
+  sound-acquire-arrives : (here : Bool) (a : Agent) (p : Packet) (c : ClientId) (m : Mode) (g : Bool) → Fit a → clientInRange c ≡ true → Whole (sentBack p)
+      → Sound (acquireArrives here v a p c m g)
+  unfolding acquireArrives marked unmarked messageFormed
+  sound-acquire-arrives false a p c m g q h w = sound-sends (more w none)
+  sound-acquire-arrives true a p c m true q h w = choice (isShared (a .mode)) (λ e. keeps (f .owner) (some-agent-formed (fit-holder q (c .0) true _)) none) (λ e. refuses)
+  sound-acquire-arrives true a p c m false q h w =
       choice (mayJoin v m)
-      (λ e. keeps (f .owner) (seated-formed (fit-holder q (c .0) true _)) (more (plain-whole (Grant c m) ToDecider (rw h) refl) none))
+      (λ e. keeps (f .owner) (some-agent-formed (fit-holder q (c .0) true _)) (more (plain-whole (Grant c m) ToDecider (rw h) refl) none))
       (λ e. sound-queuing a q c m h)
 
-  sound-released : (p : Packet) (c : ClientId) → Whole (sentBack p) → Sound (released v p c)
-  unfolding released
-  sound-released p c w = choice (lists (v .slot) c) (λ e. sound-leaves (v .slot .agent) c (fit _ (f .slot))) (λ e. sound-sends (more w none))
+  sound-release-arrives : (p : Packet) (c : ClientId) → Whole (sentBack p) → Sound (releaseArrives v p c)
+  unfolding releaseArrives
+  sound-release-arrives p c w = choice (lists (v .slot) c) (λ e. sound-leaves (v .slot .agent) c (fit _ (f .slot))) (λ e. sound-sends (more w none))
 
-  sound-returned : (here : Bool) (x : AgentSlot) → slotFormed x ≡ true → Sound (returned here v x)
-  unfolding returned
-  sound-returned true x h = refuses
-  sound-returned false x h = keeps (f .owner) h none
+  sound-free-arrives : (here : Bool) (x : AgentSlot) → slotFormed x ≡ true → Sound (freeArrives here v x)
+  unfolding freeArrives
+  sound-free-arrives true x h = refuses
+  sound-free-arrives false x h = keeps (f .owner) h none
 
   -- by the message, of the packet p; the Bool: it carries an agent
   module _ (p : Packet) where
@@ -209,10 +209,10 @@ module _ (v : Site) (f : Set v) where
     sound-arrives : (m : Message) (b : Bool) → Whole (came m b) → Sound (arrives m v (came m b))
     unfolding arrives messageFormed
     sound-arrives (Acquire c m g) b w =
-        sound-acquired (v .slot .present) (v .slot .agent) _ c m g (fit _ (f .slot)) (and-left (clientInRange c) _ (w .message)) (resent-whole w (w .message) refl)
-    sound-arrives (Grant c m) b w = sound-granted (v .slot .present) b (p .rejected) (p .carried .agent) c m (fit _ (w .carried)) (and-left (clientInRange c) _ (w .message))
-    sound-arrives (Release c) b w = sound-released _ c (resent-whole w (w .message) refl)
-    sound-arrives Free b w = sound-returned (v .slot .present) _ (w .carried)
+        sound-acquire-arrives (v .slot .present) (v .slot .agent) _ c m g (fit _ (f .slot)) (and-left (clientInRange c) _ (w .message)) (resent-whole w (w .message) refl)
+    sound-arrives (Grant c m) b w = sound-grant-arrives (v .slot .present) b (p .rejected) (p .carried .agent) c m (fit _ (w .carried)) (and-left (clientInRange c) _ (w .message))
+    sound-arrives (Release c) b w = sound-release-arrives _ c (resent-whole w (w .message) refl)
+    sound-arrives Free b w = sound-free-arrives (v .slot .present) _ (w .carried)
 
     sound-delivers : Whole p → Sound (delivers (p .to) v p)
     unfolding delivers atDecider atMachine
@@ -223,32 +223,32 @@ module _ (v : Site) (f : Set v) where
         go (ToMachine k) = sound-arrives (p .message) (p .carried .present) w
 
 -- asking and handing back
-sound-asks : (v : Site) (f : Set v) (c : ClientId) (m : Mode) (b : Bool) (a : Agent) → clientInRange c ≡ true → Fit a → Sound (asks v c m b a)
-unfolding asks messageFormed
-sound-asks v f c m true a h q =
-    choice (mayJoin v m) (λ e. keeps (f .owner) (seated-formed (fit-holder q (c .0) true (a .incarnation))) none)
+sound-client-asks : (v : Site) (f : Set v) (c : ClientId) (m : Mode) (b : Bool) (a : Agent) → clientInRange c ≡ true → Fit a → Sound (clientAsks v c m b a)
+unfolding clientAsks messageFormed
+sound-client-asks v f c m true a h q =
+    choice (mayJoin v m) (λ e. keeps (f .owner) (some-agent-formed (fit-holder q (c .0) true (a .incarnation))) none)
     (λ e. sound-queuing (withStatus v (Waiting m)) (record { owner = f .owner; slot = f .slot }) a q c m h)
-sound-asks v f c m false a h q = keeps (f .owner) (f .slot) (more (plain-whole (Acquire c m false) ToDecider (rw h) refl) none)
+sound-client-asks v f c m false a h q = keeps (f .owner) (f .slot) (more (plain-whole (Acquire c m false) ToDecider (rw h) refl) none)
 
-sound-releases : (v : Site) (f : Set v) (c : ClientId) → clientInRange c ≡ true → Sound (releases v c)
-unfolding releases messageFormed
-sound-releases v f c h =
+sound-client-releases : (v : Site) (f : Set v) (c : ClientId) → clientInRange c ≡ true → Sound (clientReleases v c)
+unfolding clientReleases messageFormed
+sound-client-releases v f c h =
     choice (lists (v .slot) c) (λ e. sound-leaves (withStatus v Idle) (record { owner = f .owner; slot = f .slot }) _ c (fit _ (f .slot)))
     (λ e. keeps (f .owner) (f .slot) (more (plain-whole (Release c) ToDecider (rw h) refl) none))
 
 -- ---- the three steps
 pub acquire-formed : (s : LockState) (c : ClientId) (m : Mode) → c .0 < clients → lockFormed s ≡ true → lockFormed (acquireStep s c m .state) ≡ true
-unfolding acquireStep acquires
+unfolding acquireStep clientAcquires
 acquire-formed s c m h f =
     let p = parts s f in
     let v = site-set p (machineOf c) c in
-    finish-formed s _ _ _ (packets (s .wire)) f (p .packets) (sound-asks _ v c m _ _ (lt-ltb (c .0) clients h) (fit _ (v .slot)))
+    finish-formed s _ _ _ (packets (s .wire)) f (p .packets) (sound-client-asks _ v c m _ _ (lt-ltb (c .0) clients h) (fit _ (v .slot)))
 
 pub release-formed : (s : LockState) (c : ClientId) → c .0 < clients → lockFormed s ≡ true → lockFormed (releaseStep s c .state) ≡ true
 unfolding releaseStep
 release-formed s c h f =
     let p = parts s f in
-    finish-formed s _ _ _ (packets (s .wire)) f (p .packets) (sound-releases _ (site-set p (machineOf c) c) c (lt-ltb (c .0) clients h))
+    finish-formed s _ _ _ (packets (s .wire)) f (p .packets) (sound-client-releases _ (site-set p (machineOf c) c) c (lt-ltb (c .0) clients h))
 
 pub deliver-formed : (s : LockState) (i : ℕ) → i < length (packets (s .wire)) → lockFormed s ≡ true → lockFormed (deliverStep s i .state) ≡ true
 unfolding deliverStep takes

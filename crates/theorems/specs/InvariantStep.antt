@@ -38,7 +38,7 @@ pub record Keeps (r : LockState) (k : MachineId) (c : ClientId) (rest : List Pac
 pub record Step (r : LockState) (k : MachineId) (c : ClientId) (old : AgentSlot) (v : Site) (gone qs rest : List Packet) : Type 0 where
   pub split : Split r gone rest
   pub machine : k .0 < machines
-  pub seat : slotAt r (k .0) ≡ old
+  pub was : slotAt r (k .0) ≡ old
   pub waits : (d : ℕ) (m : Mode) → tally (waitingP d m) gone + queuedS d m old + waitF m (told r c (v .status) d)
       ≡ tally (waitingP d m) qs + queuedS d m (v .slot) + waitF m (statusAt r d)
   pub holds : (d : ℕ) → tally (listedP d) gone + listedS d old + holdF (told r c (v .status) d) + tally (owedP d) qs
@@ -62,24 +62,24 @@ module _ {r : LockState} {k : MachineId} {c : ClientId} {old : AgentSlot} {v : S
   room = omega (arith, i .all-machines, l .machine)
 
   after : (f : Packet → ℕ) (g : AgentSlot → ℕ) → weight f g (apply k c v qs rest r) + tally f gone + g old ≡ weight f g r + tally f qs + g (v .slot)
-  after f g = rw (l .seat) at (weight-after f g r k c v gone qs rest (l .split .parts f) room)
+  after f g = rw (l .was) at (weight-after f g r k c v gone qs rest (l .split .parts f) room)
 
-  seated-below : incarnationS old ≤ tally incarnationS (r .agents)
-  seated-below = rw (l .seat) at (tally-at incarnationS noAgent (r .agents) (k .0) room)
+  slot-below : incarnationS old ≤ tally incarnationS (r .agents)
+  slot-below = rw (l .was) at (tally-at incarnationS noAgent (r .agents) (k .0) room)
 
   incs-old : r .decider .incarnation ≡ (others + tally incarnationP gone + incarnationS old + tally markP gone) % 256
   unfolding others weight
-  incs-old = i .incs ∙ ap (λ (n : ℕ). n % 256) (omega (arith, seated-below, l .split .parts incarnationP, l .split .parts markP))
+  incs-old = i .incs ∙ ap (λ (n : ℕ). n % 256) (omega (arith, slot-below, l .split .parts incarnationP, l .split .parts markP))
 
   incs-new : others + tally incarnationP qs + incarnationS (v .slot) + tally markP qs ≡ weight incarnationP incarnationS (apply k c v qs rest r) + tally markP (packets (apply k c v qs rest r .wire))
   unfolding others weight
   incs-new =
       omega (
         arith,
-        seated-below,
+        slot-below,
         packets-after incarnationP rest qs,
         packets-after markP rest qs,
-        rw (l .seat) at (tally-set incarnationS noAgent (r .agents) (k .0) (v .slot) room),
+        rw (l .was) at (tally-set incarnationS noAgent (r .agents) (k .0) (v .slot) room),
       )
 
   vacant-after : weight rejectedP vacantS (apply k c v qs rest r) ≤ tally markP (packets (apply k c v qs rest r .wire))
@@ -109,12 +109,12 @@ module _ {r : LockState} {k : MachineId} {c : ClientId} {old : AgentSlot} {v : S
 pub record Frame (r : LockState) (k : MachineId) (old : AgentSlot) (v : Site) (gone rest : List Packet) : Type 0 where
   pub split : Split r gone rest
   pub machine : k .0 < machines
-  pub seat : slotAt r (k .0) ≡ old
+  pub was : slotAt r (k .0) ≡ old
   pub owner : v .decider .owner ≡ r .decider .owner
 
 pub framed : {r : LockState} {k : MachineId} {old : AgentSlot} {v : Site} {gone rest : List Packet} → Split r gone rest → k .0 < machines → slotAt r (k .0) ≡ old
     → v .decider .owner ≡ r .decider .owner → Frame r k old v gone rest
-framed sp kk es o = record { split = sp; machine = kk; seat = es; owner = o }
+framed sp kk es o = record { split = sp; machine = kk; was = es; owner = o }
 
 -- What such a step has to show: nothing of it speaks of the wire's other packets.
 pub record Local (r : LockState) (k : MachineId) (c : ClientId) (old : AgentSlot) (v : Site) (gone qs rest : List Packet) : Type 0 where
@@ -147,7 +147,7 @@ module _ {r : LockState} {k : MachineId} {c : ClientId} {old : AgentSlot} {v : S
       (record {
         split = l .frame .split;
         machine = l .frame .machine;
-        seat = l .frame .seat;
+        was = l .frame .was;
         waits = l .waits;
         holds = l .holds;
         rels = l .rels;

@@ -1,18 +1,18 @@
 -- Each step of a drain lowers the rank: the delivery of the first packet lowers the work, or sends the packet on with fewer hops; a release lowers
 -- the work. Every rule is looked at in its own clauses; the invariant is not needed for that.
-use Rattle.theorems.specs.Names.{MachineId, ClientId, Mode, Shared, Owner, Unowned, Owned, Waiter, Agent, AgentSlot, Address, ToDecider, ToMachine, Message, Free, Acquire, Grant, Release, Packet, Idle, Holding, LockState, _≡_, refl, ap, _∙_, Bool, true, false, true≢false, false≢true, List, [], _∷_, _++_, map, ℕ, _+_, _*_, _≤_, _<_, arith, length, getD, set, length-append, List·getD-eq-default, set-getD, ltb, eqb-true, eq-eqb, ltb-true, ltb-false, pick, removed, machineOf, isShared, newAgent, seated, agentOn, listed, statusOf, plain, waiters, noAgent, packets, Site, siteOf, withSlot, withStatus, cannot-place, does, apply, queuing, noRoom, withRoom, mayJoin, anyHolder, without, lists, handOver, staysIf, leaves, releases, current, toOwner, decidesAcquire, decidesFree, decidesGrant, decides, atDecider, sendsBack, grantOf, installed, requeued, admitted, staying, joined, installs, granted, marked, unmarked, acquired, released, returned, arrives, atMachine, machineAt, clientNamed, delivers, releaseStep, takes, deliverStep, and-left, and-right, bool-cases, packets-of, waiters-of, clients, idle, mayShare, slotIn, inParts, passesOn, unowned, withDecider, rejects, shares, resent}
+use Rattle.theorems.specs.Names.{MachineId, ClientId, Mode, Shared, Owner, Unowned, Owned, Waiter, Agent, AgentSlot, Address, ToDecider, ToMachine, Message, Free, Acquire, Grant, Release, Packet, Idle, Holding, LockState, _≡_, refl, ap, _∙_, Bool, true, false, true≢false, false≢true, List, [], _∷_, _++_, map, ℕ, _+_, _*_, _≤_, _<_, arith, length, getD, set, length-append, List·getD-eq-default, set-getD, ltb, eqb-true, eq-eqb, ltb-true, ltb-false, pick, removed, machineOf, isShared, newAgent, someAgent, agentOn, listed, statusOf, plain, waiters, noAgent, packets, Site, siteOf, withSlot, withStatus, cannot-place, does, apply, queuing, noRoom, withRoom, mayJoin, anyHolder, without, lists, handOver, staysIf, leaves, clientReleases, current, toOwner, decidesAcquire, decidesFree, decidesGrant, decides, atDecider, sendsBack, grantOf, installed, requeued, admitted, staying, joined, installs, grantArrives, marked, unmarked, acquireArrives, releaseArrives, freeArrives, arrives, atMachine, machineAt, clientNamed, delivers, releaseStep, takes, deliverStep, and-left, and-right, bool-cases, packets-of, waiters-of, clients, idle, mayShare, slotIn, inParts, passesOn, unowned, withDecider, rejects, shares, resent}
 use Rattle.theorems.specs.Tally.{flag, tally, tally-one, tally-set, tally-length}
 use Rattle.theorems.specs.Weights.{statusAt, slotAt, heads, holdF, ownedAt}
 use Rattle.theorems.specs.Invariant.{Inv}
-use Rattle.theorems.specs.Keep.{Split, Still, still}
+use Rattle.theorems.specs.InvariantStep.{Split, Still, still}
 use Rattle.theorems.specs.Facts.{Request, acquire-of, release-of, wire-bound}
 use Rattle.theorems.specs.Sent.{Good}
 use Rattle.theorems.specs.Waiters.{parted, grants-count}
-use Rattle.theorems.specs.Clients.{good-releases}
+use Rattle.theorems.specs.Clients.{good-client-releases}
 use Rattle.theorems.specs.Steps.{verdict, good-deliver, Says, says-by, after-step}
 use Rattle.theorems.specs.Statements.{provedBound}
 use Rattle.theorems.specs.Work.{workM, workS, workP, work, tally-set-le, work-none, work-after, work-bound}
-use Rattle.theorems.specs.Distance.{rounds, homeIn, route, served, hopsM, hops, least, least-falls, leastOf, dist, hops-three, seated-is, least-bound}
+use Rattle.theorems.specs.Distance.{rounds, homeIn, route, served, hopsM, hops, least, least-falls, leastOf, dist, hops-three, some-agent-is, least-bound}
 
 abbrev hopsOf : LockState → Packet → ℕ
 hopsOf r = hops (r .decider .owner) (r .agents)
@@ -39,7 +39,7 @@ listed-below hs c e =
 heads-off : (a : Agent) (c : ClientId) → listed a c ≡ true → tally flag (without a c) + 1 ≡ heads a
 heads-off a c e = omega (arith, rw e at (tally-set flag false (a .holders) (c .0) false (listed-below (a .holders) (c .0) e)))
 
-work-new : (m : Mode) → workS (seated (newAgent m)) ≡ 0
+work-new : (m : Mode) → workS (someAgent (newAgent m)) ≡ 0
 unfolding workS tally
 work-new m = rw (waiters-of [])
 
@@ -53,7 +53,7 @@ tally-threes [] = refl
 tally-threes (x ∷ xs) = omega (arith, tally-threes xs)
 
 -- an agent is installed: its client joins the holders, and each waiter that leaves the queue has a GRANT for its place there
-installed-work : (n : Mode) (c : ClientId) (a : Agent) → workS (seated (installed n c a)) + tally workP (map grantOf (admitted n (waiters (a .queue)))) ≤ workS (seated a) + 2
+installed-work : (n : Mode) (c : ClientId) (a : Agent) → workS (someAgent (installed n c a)) + tally workP (map grantOf (admitted n (waiters (a .queue)))) ≤ workS (someAgent a) + 2
 unfolding workS
 installed-work n c a =
     let ws = waiters (a .queue) in
@@ -72,11 +72,11 @@ installed-work n c a =
 
 -- a holder is removed, and the agent leaves if it is empty: no work is added
 left-says : (P : Site → List Packet → Type 0) (v : Site) (a : Agent) (c : ClientId) → listed a c ≡ true
-    → ((w : Site) (qs : List Packet) → w .status ≡ v .status → workS (w .slot) + tally workP qs ≤ workS (seated a) → P w qs) → Says P (leaves v a c)
+    → ((w : Site) (qs : List Packet) → w .status ≡ v .status → workS (w .slot) + tally workP qs ≤ workS (someAgent a) → P w qs) → Says P (leaves v a c)
 unfolding staysIf
 left-says P v a c e f = go (anyHolder (without a c))
   where
-    sent : (ws : List Waiter) → waiters (a .queue) ≡ ws → workP (handOver a (without a c) ws) ≤ workS (seated a)
+    sent : (ws : List Waiter) → waiters (a .queue) ≡ ws → workP (handOver a (without a c) ws) ≤ workS (someAgent a)
     sent [] q = unfold handOver workM workS in rw (waiters-of []) (omega (arith, heads-off a c e))
     sent (w ∷ ws) q = unfold handOver workM workS in rw (waiters-of ws, q) (omega (arith, heads-off a c e))
 
@@ -155,9 +155,9 @@ module _ (r : LockState) (rest : List Packet) where
     arrived m b x = inParts m (ToMachine k) b x p
 
     -- the slot there is old
-    seat-lowers : (old : AgentSlot) (c : ClientId) (q : Packet) (v : Site) (qs : List Packet) → slotAt r (k .0) ≡ old → Split r (q ∷ []) rest
+    slot-lowers : (old : AgentSlot) (c : ClientId) (q : Packet) (v : Site) (qs : List Packet) → slotAt r (k .0) ≡ old → Split r (q ∷ []) rest
         → tally workP qs + workS (v .slot) + 2 * holdF (v .status) < workP q + workS old + 2 * holdF (statusAt r (c .0)) → Moves r k c q rest v qs
-    seat-lowers old c q v qs es sp h = lowered k c q v qs sp (rw es h)
+    slot-lowers old c q v qs es sp h = lowered k c q v qs sp (rw es h)
 
     back-acquire : (old : AgentSlot) (c : ClientId) (n : Mode) (g b x : Bool) → slotAt r (k .0) ≡ old → old .present ≡ false
         → Says (Moves r k c (arrived (Acquire c n g) b x) rest) (sendsBack (seen old c) (arrived (Acquire c n g) b x))
@@ -174,58 +174,58 @@ module _ (r : LockState) (rest : List Packet) where
     roomy : (q : Packet) (s : Agent) (c : ClientId) (v : Site) (qs : List Packet) → Moves r k c q rest v qs → Says (Moves r k c q rest) (withRoom s c (does v qs))
     roomy q s c v qs h = says-by _ (noRoom s c) cannot-place (does v qs) tt h
 
-    queued-work : (s : Agent) (c : ClientId) (n : Mode) → workS (seated (queuing s c n)) ≡ workS (seated s) + 5
+    queued-work : (s : Agent) (c : ClientId) (n : Mode) → workS (someAgent (queuing s c n)) ≡ workS (someAgent s) + 5
     unfolding workS
     queued-work s c n = rw (waiters-of (waiters (s .queue) ++ record { client = c; mode = n } ∷ []), length-append (waiters (s .queue)) (record { client = c; mode = n } ∷ [])) (omega arith)
 
-    requeued-work : (s : Agent) (c : ClientId) (n : Mode) → workS (seated (requeued s c n)) ≡ workS (seated s) + 5
+    requeued-work : (s : Agent) (c : ClientId) (n : Mode) → workS (someAgent (requeued s c n)) ≡ workS (someAgent s) + 5
     unfolding workS
     requeued-work s c n = rw (waiters-of (record { client = c; mode = n } ∷ waiters (s .queue))) (omega arith)
 
-    moves-acquired : (here : Bool) (s : Agent) (c : ClientId) (n : Mode) (g b x : Bool) → slotAt r (k .0) ≡ record { present = here; agent = s } → Split r (arrived (Acquire c n g) b x ∷ []) rest
-        → Says (Moves r k c (arrived (Acquire c n g) b x) rest) (acquired here (seen (record { present = here; agent = s }) c) s (arrived (Acquire c n g) b x) c n g)
-    unfolding acquired marked unmarked workM workS tally
-    moves-acquired false s c n g b x es sp = back-acquire _ c n g b x es refl
-    moves-acquired true s c n true b x es sp = says-by _ (isShared (s .mode)) _ _ (seat-lowers (seated s) c _ _ _ es sp (omega (arith, heads-join (s .holders) (c .0)))) tt
-    moves-acquired true s c n false b x es sp =
-        says-by _ (mayJoin (seen (seated s) c) n) _ _
-        (seat-lowers (seated s) c _ _ _ es sp (omega (arith, heads-join (s .holders) (c .0), work-plain (Grant c n) ToDecider)))
-        (roomy _ s c _ _ (seat-lowers (seated s) c _ (seen (seated (queuing s c n)) c) _ es sp (omega (arith, queued-work s c n))))
+    moves-acquire-arrives : (here : Bool) (s : Agent) (c : ClientId) (n : Mode) (g b x : Bool) → slotAt r (k .0) ≡ record { present = here; agent = s } → Split r (arrived (Acquire c n g) b x ∷ []) rest
+        → Says (Moves r k c (arrived (Acquire c n g) b x) rest) (acquireArrives here (seen (record { present = here; agent = s }) c) s (arrived (Acquire c n g) b x) c n g)
+    unfolding acquireArrives marked unmarked workM workS tally
+    moves-acquire-arrives false s c n g b x es sp = back-acquire _ c n g b x es refl
+    moves-acquire-arrives true s c n true b x es sp = says-by _ (isShared (s .mode)) _ _ (slot-lowers (someAgent s) c _ _ _ es sp (omega (arith, heads-join (s .holders) (c .0)))) tt
+    moves-acquire-arrives true s c n false b x es sp =
+        says-by _ (mayJoin (seen (someAgent s) c) n) _ _
+        (slot-lowers (someAgent s) c _ _ _ es sp (omega (arith, heads-join (s .holders) (c .0), work-plain (Grant c n) ToDecider)))
+        (roomy _ s c _ _ (slot-lowers (someAgent s) c _ (seen (someAgent (queuing s c n)) c) _ es sp (omega (arith, queued-work s c n))))
 
-    moves-granted : (here : Bool) (s : Agent) (c : ClientId) (n : Mode) (b x : Bool) → slotAt r (k .0) ≡ record { present = here; agent = s } → Split r (arrived (Grant c n) b x ∷ []) rest
-        → Says (Moves r k c (arrived (Grant c n) b x) rest) (granted here x b (seen (record { present = here; agent = s }) c) (p .carried .agent) c n)
-    unfolding granted workM workS tally holdF installs
-    moves-granted here s c n b false es sp = seat-lowers _ c _ _ _ es sp (omega arith)
-    moves-granted true s c n b true es sp = tt
-    moves-granted false s c n false true es sp = seat-lowers _ c _ _ _ es sp (omega (arith, installed-work n c (p .carried .agent)))
-    moves-granted false s c n true true es sp =
+    moves-grant-arrives : (here : Bool) (s : Agent) (c : ClientId) (n : Mode) (b x : Bool) → slotAt r (k .0) ≡ record { present = here; agent = s } → Split r (arrived (Grant c n) b x ∷ []) rest
+        → Says (Moves r k c (arrived (Grant c n) b x) rest) (grantArrives here x b (seen (record { present = here; agent = s }) c) (p .carried .agent) c n)
+    unfolding grantArrives workM workS tally holdF installs
+    moves-grant-arrives here s c n b false es sp = slot-lowers _ c _ _ _ es sp (omega arith)
+    moves-grant-arrives true s c n b true es sp = tt
+    moves-grant-arrives false s c n false true es sp = slot-lowers _ c _ _ _ es sp (omega (arith, installed-work n c (p .carried .agent)))
+    moves-grant-arrives false s c n true true es sp =
         let a : Agent = p .carried .agent in
-        roomy _ a c _ _ (seat-lowers _ c _ (seen (seated (requeued a c n)) c) _ es sp (omega (arith, requeued-work a c n)))
+        roomy _ a c _ _ (slot-lowers _ c _ (seen (someAgent (requeued a c n)) c) _ es sp (omega (arith, requeued-work a c n)))
 
-    moves-released : (y : AgentSlot) (c : ClientId) (b x : Bool) → slotAt r (k .0) ≡ y → Split r (arrived (Release c) b x ∷ []) rest
-        → Says (Moves r k c (arrived (Release c) b x) rest) (released (seen y c) (arrived (Release c) b x) c)
-    unfolding released workM
-    moves-released y c b x es sp = go (lists y c) refl
+    moves-release-arrives : (y : AgentSlot) (c : ClientId) (b x : Bool) → slotAt r (k .0) ≡ y → Split r (arrived (Release c) b x ∷ []) rest
+        → Says (Moves r k c (arrived (Release c) b x) rest) (releaseArrives (seen y c) (arrived (Release c) b x) c)
+    unfolding releaseArrives workM
+    moves-release-arrives y c b x es sp = go (lists y c) refl
       where
         go : (t : Bool) → lists y c ≡ t → Says (Moves r k c (arrived (Release c) b x) rest) (pick t (leaves (seen y c) (y .agent) c) (sendsBack (seen y c) (arrived (Release c) b x)))
         go true q =
             left-says _ (seen y c) (y .agent) c (and-right (y .present) _ q)
-            (λ w qs e h. seat-lowers (seated (y .agent)) c _ w qs (es ∙ seated-is y (and-left (y .present) _ q)) sp (rw e (omega (arith, h))))
+            (λ w qs e h. slot-lowers (someAgent (y .agent)) c _ w qs (es ∙ some-agent-is y (and-left (y .present) _ q)) sp (rw e (omega (arith, h))))
         go false q = back-release y c b x es q
 
-    moves-returned : (here : Bool) (s : Agent) (c : ClientId) (b x : Bool) → slotAt r (k .0) ≡ record { present = here; agent = s } → Split r (arrived Free b x ∷ []) rest
-        → Says (Moves r k c (arrived Free b x) rest) (returned here (seen (record { present = here; agent = s }) c) (slotIn x p))
-    unfolding returned workM tally
-    moves-returned true s c b x es sp = tt
-    moves-returned false s c b x es sp = seat-lowers _ c _ _ _ es sp (omega arith)
+    moves-free-arrives : (here : Bool) (s : Agent) (c : ClientId) (b x : Bool) → slotAt r (k .0) ≡ record { present = here; agent = s } → Split r (arrived Free b x ∷ []) rest
+        → Says (Moves r k c (arrived Free b x) rest) (freeArrives here (seen (record { present = here; agent = s }) c) (slotIn x p))
+    unfolding freeArrives workM tally
+    moves-free-arrives true s c b x es sp = tt
+    moves-free-arrives false s c b x es sp = slot-lowers _ c _ _ _ es sp (omega arith)
 
     moves-arrives : (m : Message) (b x : Bool) → Split r (arrived m b x ∷ []) rest
         → Says (Moves r k (clientNamed m) (arrived m b x) rest) (arrives m (siteOf r k (clientNamed m)) (arrived m b x))
     unfolding arrives
-    moves-arrives (Acquire c n g) b x sp = moves-acquired (agentOn r k .present) (agentOn r k .agent) c n g b x refl sp
-    moves-arrives (Grant c n) b x sp = moves-granted (agentOn r k .present) (agentOn r k .agent) c n b x refl sp
-    moves-arrives (Release c) b x sp = moves-released (agentOn r k) c b x refl sp
-    moves-arrives Free b x sp = moves-returned (agentOn r k .present) (agentOn r k .agent) _ b x refl sp
+    moves-arrives (Acquire c n g) b x sp = moves-acquire-arrives (agentOn r k .present) (agentOn r k .agent) c n g b x refl sp
+    moves-arrives (Grant c n) b x sp = moves-grant-arrives (agentOn r k .present) (agentOn r k .agent) c n b x refl sp
+    moves-arrives (Release c) b x sp = moves-release-arrives (agentOn r k) c b x refl sp
+    moves-arrives Free b x sp = moves-free-arrives (agentOn r k .present) (agentOn r k .agent) _ b x refl sp
 
   moves-delivers : (p : Packet) (t : Address) → Split r (resent p t (p .rejected) ∷ []) rest
       → Says (Moves r (machineAt t) (clientNamed (p .message)) (resent p t (p .rejected)) rest) (verdict r (resent p t (p .rejected)))
@@ -253,15 +253,15 @@ module _ (r : LockState) (c : ClientId) (n : Mode) (h : statusOf r c ≡ Holding
       let idle : 2 * holdF (v .status) ≡ 0 = rw e in
       omega (arith, own, idle, w, rw es at (work-after r (machineOf c) c v [] qs (packets (r .wire)) (whole-wire r)))
 
-  release-lowers : Says Less (releases home c)
-  unfolding releases tally
+  release-lowers : Says Less (clientReleases home c)
+  unfolding clientReleases tally
   release-lowers = go (lists (agentOn r (machineOf c)) c) refl
     where
       go : (t : Bool) → lists (agentOn r (machineOf c)) c ≡ t
           → Says Less (pick t (leaves (withStatus home Idle) (agentOn r (machineOf c) .agent) c) (does (withStatus home Idle) (plain (Release c) ToDecider ∷ [])))
       go true q =
           left-says _ (withStatus home Idle) (agentOn r (machineOf c) .agent) c (and-right (agentOn r (machineOf c) .present) _ q)
-          (λ w qs e l. less _ w qs (seated-is _ (and-left (agentOn r (machineOf c) .present) _ q)) e (omega (arith, l)))
+          (λ w qs e l. less _ w qs (some-agent-is _ (and-left (agentOn r (machineOf c) .present) _ q)) e (omega (arith, l)))
       go false q =
           let w : workP (plain (Release c) ToDecider) ≡ 1 = work-plain (Release c) ToDecider ∙ unfold workM in refl in
           less _ _ (plain (Release c) ToDecider ∷ []) refl refl (omega (arith, w))
@@ -306,5 +306,5 @@ deliver-falls r i p ps e =
 pub release-falls : (r : LockState) → Inv r → (c : ClientId) (n : Mode) → c .0 < clients → statusOf r c ≡ Holding n → rank (releaseStep r c .state) < rank r
 unfolding releaseStep Less
 release-falls r i c n h e =
-    after-step _ _ (Less r c n e) (λ s. rank s < rank r) _ (packets (r .wire)) r (good-releases r i c h n e) (release-lowers r c n e)
+    after-step _ _ (Less r c n e) (λ s. rank s < rank r) _ (packets (r .wire)) r (good-client-releases r i c h n e) (release-lowers r c n e)
     (λ v qs l. less-work (apply (machineOf c) c v qs (packets (r .wire)) r) r l)

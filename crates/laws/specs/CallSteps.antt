@@ -1,4 +1,4 @@
--- A call on a well-formed cluster, opened: refused by a test, or every test passed and the call is its step on one lock.
+-- A call on a well-formed cluster, by cases: refused by a test, or every test passed and the call is its step on one lock.
 use mathlib.Core.Path.{_≡_, refl, sym, _∙_}
 use mathlib.Core.Bool.{Bool, true, false, _&&_, _||_, not, true≢false}
 use mathlib.Core.List.{List, [], _∷_}
@@ -40,9 +40,9 @@ pub data Allowed : Call → LockState → Type 0 where
       → Allowed (ReleaseCall l k t) s
   may-deliver : {l : LockId} {i : ℕ} {s : LockState} → i < length (packets (s .wire)) → Allowed (DeliverCall l i) s
 
-pub data Opened (c : Call) (x : Cluster) : Type 0 where
-  denied : (r : Refusal) → 1 ≤ refusalNumber r → refusalNumber r ≤ 8 → perform c x ≡ refusing r x → Opened c x
-  passed : lockOf c .0 < locks → Allowed c (lockIn x (lockOf c)) → perform c x ≡ outcomeOf c x → Opened c x
+pub data CallCases (c : Call) (x : Cluster) : Type 0 where
+  denied : (r : Refusal) → 1 ≤ refusalNumber r → refusalNumber r ≤ 8 → perform c x ≡ refusing r x → CallCases c x
+  passed : lockOf c .0 < locks → Allowed c (lockIn x (lockOf c)) → perform c x ≡ outcomeOf c x → CallCases c x
 
 -- ---- the first cause that holds
 abbrev NoneHolds : List Cause → Type 0
@@ -68,13 +68,13 @@ tested ((r when false) ∷ cs) e = go (tested cs (and-right (early (r when false
     go (goes-on n f) = goes-on (refl, n) f
 
 -- with every cause false, the call is its step
-opened-by : (c : Call) (x : Cluster) (cs : List Cause) → wellFormed x ≡ true → all early cs ≡ true
+cases-by : (c : Call) (x : Cluster) (cs : List Cause) → wellFormed x ≡ true → all early cs ≡ true
     → perform c x ≡ unless (first ((Malformed when not (wellFormed x)) ∷ cs)) x (lockOf c) (stepOf c (lockIn x (lockOf c)))
-    → (NoneHolds cs → (lockOf c .0 < locks) × Allowed c (lockIn x (lockOf c))) → Opened c x
+    → (NoneHolds cs → (lockOf c .0 < locks) × Allowed c (lockIn x (lockOf c))) → CallCases c x
 unfolding first unless
-opened-by c x cs w e q g = go (tested cs e)
+cases-by c x cs w e q g = go (tested cs e)
   where
-    go : Tested cs → Opened c x
+    go : Tested cs → CallCases c x
     go (stops r h f) = denied r (leb-true 1 _ (and-left (leb 1 (refusalNumber r)) _ h)) (leb-true _ 8 (and-right (leb 1 (refusalNumber r)) _ h)) (q ∙ rw (w, f))
     go (goes-on n f) = passed (g n .0) (g n .1) (q ∙ rw (w, f))
 
@@ -95,19 +95,19 @@ mode-number m e = go (eqb m 2) refl (not-false (eqb m 2 || eqb m 3) e)
     go true e2 h = sym (eqb-true m 2 e2)
     go false e2 h = sym (eqb-true m 3 h)
 
-pub opened : (c : Call) (x : Cluster) → wellFormed x ≡ true → Opened c x
+pub call-cases : (c : Call) (x : Cluster) → wellFormed x ≡ true → CallCases c x
 unfolding perform acquire release deliver
-opened (AcquireCall l k t m) x w =
-    opened-by (AcquireCall l k t m) x _ w refl refl (λ n. (
+call-cases (AcquireCall l k t m) x w =
+    cases-by (AcquireCall l k t m) x _ w refl refl (λ n. (
       leb-false locks _ (n .0),
       may-acquire (leb-false machines _ (n .1 .0)) (leb-false tasks _ (n .1 .1 .0)) (mode-number m (n .1 .1 .1 .0))
           (is-idle _ (n .1 .1 .1 .1 .0)) (n .1 .1 .1 .1 .1 .0),
     ))
-opened (ReleaseCall l k t) x w =
-    opened-by (ReleaseCall l k t) x _ w refl refl (λ n.
+call-cases (ReleaseCall l k t) x w =
+    cases-by (ReleaseCall l k t) x _ w refl refl (λ n.
     let h = is-holding _ (n .1 .1 .1 .0) in
     (leb-false locks _ (n .0), may-release (leb-false machines _ (n .1 .0)) (leb-false tasks _ (n .1 .1 .0)) (h .0) (h .1)))
-opened (DeliverCall l i) x w = opened-by (DeliverCall l i) x _ w refl refl (λ n. (leb-false locks _ (n .0), may-deliver (leb-false _ i (n .1 .0))))
+call-cases (DeliverCall l i) x w = cases-by (DeliverCall l i) x _ w refl refl (λ n. (leb-false locks _ (n .0), may-deliver (leb-false _ i (n .1 .0))))
 
 -- ---- the frame: of other locks, and of the call's own
 settled-elsewhere : (a : Answer) (x : Cluster) (l : LockId) (s : LockState) (j : LockId) → (j .0 ≡ l .0 → ⊥) → lockIn (settled a x l s .cluster) j ≡ lockIn x j
