@@ -14,7 +14,7 @@ use Rattle.model.specs.WellFormed.{clientInRange, ownerInRange, addressInRange,
 use Rattle.model.specs.Changes.{siteOf, withSlot, withStatus, Verdict, cannot-place, does, apply, accepted, refused, finish}
 use Rattle.model.specs.Asking.{changed, queuing, noRoom, withRoom, mayJoin, clientAsks, clientAcquires, anyHolder, without, handOver, staysIf, leaves, lists, clientReleases}
 use Rattle.model.specs.AtDecider.{toOwner, grantsWith, mayShare, decidesAcquire, current, decidesFree, decidesGrant, decides, atDecider}
-use Rattle.model.specs.AtMachine.{sentBack, admitted, joined, grantOf, requeued, installs, grantArrives, marked, unmarked, acquireArrives, releaseArrives, freeArrives, arrives, atMachine}
+use Rattle.model.specs.AtMachine.{sentBack, admitted, joined, grantOf, requeued, installs, grantArrives, rejectedGrantArrives, marked, unmarked, acquireArrives, releaseArrives, freeArrives, arrives, atMachine}
 use Rattle.model.specs.Calls.{delivers, packetAt, acquireStep, releaseStep, takes, deliverStep}
 use Rattle.laws.specs.Tests.{and-left, and-right, both, or-left, or-right}
 use Rattle.laws.specs.Lists.{all-append, all-removed, all-set, left-out, whole, sublist-all}
@@ -151,12 +151,16 @@ module _ (v : Site) (f : Set v) where
   sound-decides-acquire (Owned n k) p c m true h w i = sound-to-owner (Owned n k) p w i
 
   -- at a machine: sent back, or taken
-  sound-grant-arrives : (here b r : Bool) (a : Agent) (c : ClientId) (m : Mode) → Fit a → clientInRange c ≡ true → Sound (grantArrives here b r v a c m)
+  sound-grant-arrives : (here b : Bool) (a : Agent) (c : ClientId) (m : Mode) → Fit a → clientInRange c ≡ true → Sound (grantArrives here b v a c m)
   unfolding grantArrives
-  sound-grant-arrives here false r a c m q h = keeps (f .owner) (f .slot) none
-  sound-grant-arrives true true r a c m q h = refuses
-  sound-grant-arrives false true false a c m q h = sound-installs a q c m h
-  sound-grant-arrives false true true a c m q h = sound-requeued a q c m h
+  sound-grant-arrives here false a c m q h = keeps (f .owner) (f .slot) none
+  sound-grant-arrives true true a c m q h = refuses
+  sound-grant-arrives false true a c m q h = sound-installs a q c m h
+
+  sound-rejected-arrives : (here : Bool) (a : Agent) (c : ClientId) (m : Mode) → Fit a → clientInRange c ≡ true → Sound (rejectedGrantArrives here v a c m)
+  unfolding rejectedGrantArrives
+  sound-rejected-arrives true a c m q h = refuses
+  sound-rejected-arrives false a c m q h = sound-requeued a q c m h
 
   sound-acquire-arrives : (here : Bool) (a : Agent) (p : Packet) (c : ClientId) (m : Mode) (g : Bool) → Fit a → clientInRange c ≡ true → Whole (sentBack p)
       → Sound (acquireArrives here v a p c m g)
@@ -210,7 +214,10 @@ module _ (v : Site) (f : Set v) where
     unfolding arrives messageFormed
     sound-arrives (Acquire c m g) b w =
         sound-acquire-arrives (v .slot .present) (v .slot .agent) _ c m g (fit _ (f .slot)) (and-left (clientInRange c) _ (w .message)) (resent-whole w (w .message) refl)
-    sound-arrives (Grant c m) b w = sound-grant-arrives (v .slot .present) b (p .rejected) (p .carried .agent) c m (fit _ (w .carried)) (and-left (clientInRange c) _ (w .message))
+    sound-arrives (Grant c m) b w =
+        let q = fit _ (w .carried) in
+        let h = and-left (clientInRange c) _ (w .message) in
+        choice (p .rejected) (λ e. sound-rejected-arrives (v .slot .present) (p .carried .agent) c m q h) (λ e. sound-grant-arrives (v .slot .present) b (p .carried .agent) c m q h)
     sound-arrives (Release c) b w = sound-release-arrives _ c (resent-whole w (w .message) refl)
     sound-arrives Free b w = sound-free-arrives (v .slot .present) _ (w .carried)
 

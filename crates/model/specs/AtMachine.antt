@@ -55,12 +55,15 @@ abbrev pub requeued : Agent → ClientId → Mode → Agent
 requeued a c m = changed a (a .holders) (queueOf (record { client = c; mode = m } ∷ waiters (a .queue))) (a .incarnation)
 
 -- GRANT not turned back: its client is holding in its mode. At a machine that has an agent, another agent cannot be placed. The
--- Bools: an agent is here, one is carried, rejected.
-unfoldable pub grantArrives : Bool → Bool → Bool → Site → Agent → ClientId → Mode → Verdict
-grantArrives here false rejected v a c m = does (withStatus v (Holding m)) []
-grantArrives true true rejected v a c m = cannot-place
-grantArrives false true false v a c m = installs v c m a
-grantArrives false true true v a c m = withRoom a c (does (withSlot v (someAgent (requeued a c m))) [])
+-- Bools: an agent is here, one is carried.
+unfoldable pub grantArrives : Bool → Bool → Site → Agent → ClientId → Mode → Verdict
+grantArrives here false v a c m = does (withStatus v (Holding m)) []
+grantArrives true true v a c m = cannot-place
+grantArrives false true v a c m = installs v c m a
+
+unfoldable pub rejectedGrantArrives : Bool → Site → Agent → ClientId → Mode → Verdict
+rejectedGrantArrives true v a c m = cannot-place
+rejectedGrantArrives false v a c m = withRoom a c (does (withSlot v (someAgent (requeued a c m))) [])
 
 -- Marked ACQUIRE: the client joins the holders; the agent's incarnation plus one. At an exclusive agent it cannot be placed.
 unfoldable pub marked : Site → Agent → ClientId → Verdict
@@ -94,7 +97,10 @@ freeArrives false v carried = does (withSlot v carried) []
 
 unfoldable pub arrives : Message → Site → Packet → Verdict
 arrives (Acquire c m g) v p = acquireArrives (v .slot .present) v (v .slot .agent) p c m g
-arrives (Grant c m) v p = grantArrives (v .slot .present) (p .carried .present) (p .rejected) v (p .carried .agent) c m
+arrives (Grant c m) v p =
+    pick (p .rejected)
+    (rejectedGrantArrives (v .slot .present) v (p .carried .agent) c m)
+    (grantArrives (v .slot .present) (p .carried .present) v (p .carried .agent) c m)
 arrives (Release c) v p = releaseArrives v p c
 arrives Free v p = freeArrives (v .slot .present) v (p .carried)
 

@@ -42,7 +42,7 @@ ghost use lib.ListN.{take};
 ghost use Rattle.model.specs.States.{queueCapacity, waiters, someAgent};
 ghost use Rattle.model.specs.Changes.{withSlot, does};
 ghost use Rattle.model.specs.Asking.{withRoom};
-ghost use Rattle.model.specs.AtMachine.{sentBack, installs, requeued, grantArrives, marked, unmarked, acquireArrives, releaseArrives, freeArrives, arrives, atMachine};
+ghost use Rattle.model.specs.AtMachine.{sentBack, installs, requeued, grantArrives, rejectedGrantArrives, marked, unmarked, acquireArrives, releaseArrives, freeArrives, arrives, atMachine};
 ghost use Rattle.laws.specs.Shapes.{CanonicalQueue};
 ghost use Rattle.rules.specs.Names.{Exclusive, Shared};
 ghost use Rattle.rules.specs.Effects.{verdictOf};
@@ -174,28 +174,30 @@ fn sent_back(p: Packet) -> Packet
 }
 
 // here: an agent is on the machine; x: the agent carried, or none.
-pub fn grant_arrives(
-    v: Site,
-    here: bool,
-    x: AgentSlot,
-    rejected: bool,
-    c: ClientId,
-    m: Mode,
-) -> Effect
+pub fn grant_arrives(v: Site, here: bool, x: AgentSlot, c: ClientId, m: Mode) -> Effect
     requires { ⌜ CanonicalQueue (x .agent .queue) ⌝ }
-    ensures { λ r. ⌜ verdictOf r ≡ grantArrives here (x .present) rejected v (x .agent) c m ⌝ }
+    ensures { λ r. ⌜ verdictOf r ≡ grantArrives here (x .present) v (x .agent) c m ⌝ }
 {
     if x.present {
         if here {
             cannot_place()
-        } else if rejected {
-            queue_first(v, x.agent, c, m)
         } else {
             install(v, c, m, x.agent)
         }
     } else {
         let w = with_status(v, Status::Holding(m));
         doing(w, no_packet())
+    }
+}
+
+pub fn rejected_grant_arrives(v: Site, here: bool, a: Agent, c: ClientId, m: Mode) -> Effect
+    requires { ⌜ CanonicalQueue (a .queue) ⌝ }
+    ensures { λ r. ⌜ verdictOf r ≡ rejectedGrantArrives here v a c m ⌝ }
+{
+    if here {
+        cannot_place()
+    } else {
+        queue_first(v, a, c, m)
     }
 }
 
@@ -279,14 +281,13 @@ pub fn arrive(m: Message, v: Site, p: Packet) -> Effect
             mode,
             granted,
         } => acquire_arrives(v, p, client, mode, granted),
-        Message::Grant { client, mode } => grant_arrives(
-            v,
-            v.slot.present,
-            p.carried,
-            p.rejected,
-            client,
-            mode,
-        ),
+        Message::Grant { client, mode } => {
+            if p.rejected {
+                rejected_grant_arrives(v, v.slot.present, p.carried.agent, client, mode)
+            } else {
+                grant_arrives(v, v.slot.present, p.carried, client, mode)
+            }
+        }
         Message::Release { client } => release_arrives(v, p, client),
     }
 }

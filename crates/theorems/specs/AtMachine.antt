@@ -1,10 +1,10 @@
 -- Every step at a machine can be placed and keeps the invariant.
-use Rattle.theorems.specs.Names.{MachineId, ClientId, Mode, Exclusive, Shared, Owner, Unowned, Owned, Queue, Agent, AgentSlot, Address, ToDecider, ToMachine, Message, Free, Acquire, Grant, Release, Packet, Waiting, Holding, LockState, _≡_, refl, Bool, true, false, _&&_, not, List, [], _∷_, _++_, ℕ, _+_, _≤_, _<_, _%_, arith, length, getD, set, eqb, ltb, ne-eqb, ltb-true, isShared, someAgent, listed, plain, queueOf, waiters, noAgent, cannot-place, does, Site, siteOf, withSlot, withStatus, changed, joining, queuing, noRoom, withRoom, mayJoin, lists, leaves, next, sendsBack, requeued, installs, grantArrives, marked, unmarked, acquireArrives, releaseArrives, freeArrives, arrives, clientNamed, and-left, and-right, waiters-of, sym, _∙_, true≢false, machines, clients, ownedShared, both, slotIn, inParts}
+use Rattle.theorems.specs.Names.{MachineId, ClientId, Mode, Exclusive, Shared, Owner, Unowned, Owned, Queue, Agent, AgentSlot, Address, ToDecider, ToMachine, Message, Free, Acquire, Grant, Release, Packet, Waiting, Holding, LockState, _≡_, refl, Bool, true, false, _&&_, not, List, [], _∷_, _++_, ℕ, _+_, _≤_, _<_, _%_, arith, length, getD, set, eqb, ltb, ne-eqb, ltb-true, isShared, someAgent, listed, plain, queueOf, waiters, noAgent, cannot-place, does, Site, siteOf, withSlot, withStatus, changed, joining, queuing, noRoom, withRoom, mayJoin, lists, leaves, next, sendsBack, requeued, installs, grantArrives, rejectedGrantArrives, marked, unmarked, acquireArrives, releaseArrives, freeArrives, arrives, clientNamed, and-left, and-right, waiters-of, sym, _∙_, true≢false, machines, clients, ownedShared, both, slotIn, inParts}
 use Rattle.theorems.specs.Tally.{flag, tally, tally-append, tally-at}
 use Rattle.theorems.specs.Weights.{statusAt, slotAt, weight, sameMode, one, hit, hitW, askM, queuedS, waitingP, markM, listedS, listedP, owedM, releaseM, releaseP, agentS, agentP, incarnationS, markAll, rejectedP, heads, vacantS, waitF, holdF, idleF, clash, ownedMode, ownedAt, few, fitsAway, fitsFree, fits, misfitP}
 use Rattle.theorems.specs.Invariant.{Inv}
 use Rattle.theorems.specs.InvariantStep.{Keeps, Split, untold, keep, keep-calm, vacancy-by, framed, still}
-use Rattle.theorems.specs.Facts.{fit, Zero, absent, list-on, came-fits, Plain, Request, acquire-of, release-of, plain-request, Away, away-of, Home, home-fits, slot-home, few-less, status-move, in-slot, clash-none, shared-owner, none-away, none-rejected, none-vacant, one-self, lists-one, asker-unlisted, joins-fits, joins-heads, few-zero, flag-le, drop-last, grant-waits, unshared}
+use Rattle.theorems.specs.Facts.{fit, Zero, absent, list-on, came-fits, Plain, Request, acquire-of, release-of, plain-request, Away, away-of, Home, home-fits, slot-home, few-less, status-move, in-slot, clash-none, shared-owner, none-away, rejected-carries-one, none-rejected, none-vacant, one-self, lists-one, asker-unlisted, joins-fits, joins-heads, few-zero, flag-le, drop-last, grant-waits, unshared}
 use Rattle.theorems.specs.Sent.{Good, good-by, may-join, request-any, no-marked, no-free, no-early, impossible, keep-on, shared-is}
 use Rattle.theorems.specs.Waiters.{room-waiting}
 use Rattle.theorems.specs.Leaving.{Leaver, keep-leaves}
@@ -286,11 +286,13 @@ module _ (r : LockState) (rest : List Packet) (i : Inv r) (k : MachineId) (kk : 
 
   pub good-arrives : (m : Message) (y b x : Bool) → slotAt r (k .0) ≡ record { present = y; agent = h } → Split r (came m b x ∷ []) rest
       → Good r k (clientNamed m) rest (arrives m (seen y (clientNamed m)) (came m b x))
-  unfolding arrives grantArrives freeArrives installs agentS
+  unfolding arrives grantArrives rejectedGrantArrives freeArrives installs agentS
   good-arrives (Acquire c n g) y b x es sp = good-acquire-arrives y c n g b x es sp
   good-arrives (Release c) y b x es sp = good-release-arrives y c b x es sp
-  good-arrives (Grant c n) y b false es sp = rw (← es) (keep-told r rest i k kk c n p (ToMachine k) b sp)
-  good-arrives (Grant c n) true b true es sp = two sp es refl
+  good-arrives (Grant c n) y false false es sp = rw (← es) (keep-told r rest i k kk c n p (ToMachine k) false sp)
+  good-arrives (Grant c n) y true false es sp = absurd (rejected-carries-one r i rest _ sp refl refl)
+  good-arrives (Grant c n) true false true es sp = two sp es refl
+  good-arrives (Grant c n) true true true es sp = two sp es refl
   good-arrives (Grant c n) false false true es sp = keep-installs r rest k c n p _ i kk es refl sp
   good-arrives (Grant c n) false true true es sp = good-grant-back r rest i k kk _ es refl p c n sp
   good-arrives Free true b true es sp = two sp es refl

@@ -32,7 +32,7 @@ unfoldable pub use Rattle.model.specs.Asking.{mayJoin, clientAsks, clientAcquir
 pub use Rattle.model.specs.AtDecider.{next, sentOn, ownedShared, grantsWith, grantsFirst, shares, current, rejectedTo, rejects, passesOn}
 unfoldable pub use Rattle.model.specs.AtDecider.{mayShare, toOwner, decidesAcquire, decidesFree, decidesGrant, decides, atDecider}
 pub use Rattle.model.specs.AtMachine.{sentBack, sendsBack, grantOf, installed, requeued}
-unfoldable pub use Rattle.model.specs.AtMachine.{admitted, staying, joined, installs, grantArrives, marked, unmarked, acquireArrives, releaseArrives, freeArrives, arrives, atMachine}
+unfoldable pub use Rattle.model.specs.AtMachine.{admitted, staying, joined, installs, grantArrives, rejectedGrantArrives, marked, unmarked, acquireArrives, releaseArrives, freeArrives, arrives, atMachine}
 pub use Rattle.model.specs.Calls.{refusing, isIdle, isHolding, messageNames, names, machineAt, clientNamed, packetAt, answersOf, after}
 unfoldable pub use Rattle.model.specs.Calls.{delivers, acquireStep, releaseStep, takes, deliverStep, settled, unless, acquire, release, deliver, perform, run}
 pub use Rattle.model.specs.Refusals.{refusalNumber, number}

@@ -1,11 +1,11 @@
 -- Each step of a drain lowers the rank: the delivery of the first packet lowers the work, or sends the packet on with fewer hops; a release lowers
 -- the work. Every rule is looked at in its own clauses; the invariant is not needed for that.
-use Rattle.theorems.specs.Names.{MachineId, ClientId, Mode, Shared, Owner, Unowned, Owned, Waiter, Agent, AgentSlot, Address, ToDecider, ToMachine, Message, Free, Acquire, Grant, Release, Packet, Idle, Holding, LockState, _≡_, refl, ap, _∙_, Bool, true, false, true≢false, false≢true, List, [], _∷_, _++_, map, ℕ, _+_, _*_, _≤_, _<_, arith, length, getD, set, length-append, List·getD-eq-default, set-getD, ltb, eqb-true, eq-eqb, ltb-true, ltb-false, pick, removed, machineOf, isShared, newAgent, someAgent, agentOn, listed, statusOf, plain, waiters, noAgent, packets, Site, siteOf, withSlot, withStatus, cannot-place, does, apply, queuing, noRoom, withRoom, mayJoin, anyHolder, without, lists, handOver, staysIf, leaves, clientReleases, current, toOwner, decidesAcquire, decidesFree, decidesGrant, decides, atDecider, sendsBack, grantOf, installed, requeued, admitted, staying, joined, installs, grantArrives, marked, unmarked, acquireArrives, releaseArrives, freeArrives, arrives, atMachine, machineAt, clientNamed, delivers, releaseStep, takes, deliverStep, and-left, and-right, bool-cases, packets-of, waiters-of, clients, idle, mayShare, slotIn, inParts, passesOn, unowned, withDecider, rejects, shares, resent}
+use Rattle.theorems.specs.Names.{MachineId, ClientId, Mode, Shared, Owner, Unowned, Owned, Waiter, Agent, AgentSlot, Address, ToDecider, ToMachine, Message, Free, Acquire, Grant, Release, Packet, Idle, Holding, LockState, _≡_, refl, ap, _∙_, Bool, true, false, true≢false, false≢true, List, [], _∷_, _++_, map, ℕ, _+_, _*_, _≤_, _<_, arith, length, getD, set, length-append, List·getD-eq-default, set-getD, ltb, eqb-true, eq-eqb, ltb-true, ltb-false, pick, removed, machineOf, isShared, newAgent, someAgent, agentOn, listed, statusOf, plain, waiters, noAgent, packets, Site, siteOf, withSlot, withStatus, cannot-place, does, apply, queuing, noRoom, withRoom, mayJoin, anyHolder, without, lists, handOver, staysIf, leaves, clientReleases, current, toOwner, decidesAcquire, decidesFree, decidesGrant, decides, atDecider, sendsBack, grantOf, installed, requeued, admitted, staying, joined, installs, grantArrives, rejectedGrantArrives, marked, unmarked, acquireArrives, releaseArrives, freeArrives, arrives, atMachine, machineAt, clientNamed, delivers, releaseStep, takes, deliverStep, and-left, and-right, bool-cases, packets-of, waiters-of, clients, idle, mayShare, slotIn, inParts, passesOn, unowned, withDecider, rejects, shares, resent}
 use Rattle.theorems.specs.Tally.{flag, tally, tally-one, tally-set, tally-length}
 use Rattle.theorems.specs.Weights.{statusAt, slotAt, heads, holdF, ownedAt}
 use Rattle.theorems.specs.Invariant.{Inv}
 use Rattle.theorems.specs.InvariantStep.{Split, Still, still}
-use Rattle.theorems.specs.Facts.{Request, acquire-of, release-of, wire-bound}
+use Rattle.theorems.specs.Facts.{Request, acquire-of, release-of, rejected-carries-one, wire-bound}
 use Rattle.theorems.specs.Sent.{Good}
 use Rattle.theorems.specs.Waiters.{parted, grants-count}
 use Rattle.theorems.specs.Clients.{good-client-releases}
@@ -192,13 +192,20 @@ module _ (r : LockState) (rest : List Packet) where
         (slot-lowers (someAgent s) c _ _ _ es sp (omega (arith, heads-join (s .holders) (c .0), work-plain (Grant c n) ToDecider)))
         (roomy _ s c _ _ (slot-lowers (someAgent s) c _ (seen (someAgent (queuing s c n)) c) _ es sp (omega (arith, queued-work s c n))))
 
-    moves-grant-arrives : (here : Bool) (s : Agent) (c : ClientId) (n : Mode) (b x : Bool) → slotAt r (k .0) ≡ record { present = here; agent = s } → Split r (arrived (Grant c n) b x ∷ []) rest
-        → Says (Moves r k c (arrived (Grant c n) b x) rest) (grantArrives here x b (seen (record { present = here; agent = s }) c) (p .carried .agent) c n)
+    moves-grant-arrives : (here : Bool) (s : Agent) (c : ClientId) (n : Mode) (x : Bool) → slotAt r (k .0) ≡ record { present = here; agent = s }
+        → Split r (arrived (Grant c n) false x ∷ []) rest
+        → Says (Moves r k c (arrived (Grant c n) false x) rest) (grantArrives here x (seen (record { present = here; agent = s }) c) (p .carried .agent) c n)
     unfolding grantArrives workM workS tally holdF installs
-    moves-grant-arrives here s c n b false es sp = slot-lowers _ c _ _ _ es sp (omega arith)
-    moves-grant-arrives true s c n b true es sp = tt
-    moves-grant-arrives false s c n false true es sp = slot-lowers _ c _ _ _ es sp (omega (arith, installed-work n c (p .carried .agent)))
-    moves-grant-arrives false s c n true true es sp =
+    moves-grant-arrives here s c n false es sp = slot-lowers _ c _ _ _ es sp (omega arith)
+    moves-grant-arrives true s c n true es sp = tt
+    moves-grant-arrives false s c n true es sp = slot-lowers _ c _ _ _ es sp (omega (arith, installed-work n c (p .carried .agent)))
+
+    moves-rejected-arrives : (here : Bool) (s : Agent) (c : ClientId) (n : Mode) → slotAt r (k .0) ≡ record { present = here; agent = s }
+        → Split r (arrived (Grant c n) true true ∷ []) rest
+        → Says (Moves r k c (arrived (Grant c n) true true) rest) (rejectedGrantArrives here (seen (record { present = here; agent = s }) c) (p .carried .agent) c n)
+    unfolding rejectedGrantArrives workM workS tally
+    moves-rejected-arrives true s c n es sp = tt
+    moves-rejected-arrives false s c n es sp =
         let a : Agent = p .carried .agent in
         roomy _ a c _ _ (slot-lowers _ c _ (seen (someAgent (requeued a c n)) c) _ es sp (omega (arith, requeued-work a c n)))
 
@@ -219,19 +226,22 @@ module _ (r : LockState) (rest : List Packet) where
     moves-free-arrives true s c b x es sp = tt
     moves-free-arrives false s c b x es sp = slot-lowers _ c _ _ _ es sp (omega arith)
 
-    moves-arrives : (m : Message) (b x : Bool) → Split r (arrived m b x ∷ []) rest
+    -- what is rejected carries an agent
+    moves-arrives : (m : Message) (b x : Bool) → (x ≡ false → b ≡ true → ⊥) → Split r (arrived m b x ∷ []) rest
         → Says (Moves r k (clientNamed m) (arrived m b x) rest) (arrives m (siteOf r k (clientNamed m)) (arrived m b x))
     unfolding arrives
-    moves-arrives (Acquire c n g) b x sp = moves-acquire-arrives (agentOn r k .present) (agentOn r k .agent) c n g b x refl sp
-    moves-arrives (Grant c n) b x sp = moves-grant-arrives (agentOn r k .present) (agentOn r k .agent) c n b x refl sp
-    moves-arrives (Release c) b x sp = moves-release-arrives (agentOn r k) c b x refl sp
-    moves-arrives Free b x sp = moves-free-arrives (agentOn r k .present) (agentOn r k .agent) _ b x refl sp
+    moves-arrives (Acquire c n g) b x e sp = moves-acquire-arrives (agentOn r k .present) (agentOn r k .agent) c n g b x refl sp
+    moves-arrives (Grant c n) false x e sp = moves-grant-arrives (agentOn r k .present) (agentOn r k .agent) c n x refl sp
+    moves-arrives (Grant c n) true true e sp = moves-rejected-arrives (agentOn r k .present) (agentOn r k .agent) c n refl sp
+    moves-arrives (Grant c n) true false e sp = absurd (e refl refl)
+    moves-arrives (Release c) b x e sp = moves-release-arrives (agentOn r k) c b x refl sp
+    moves-arrives Free b x e sp = moves-free-arrives (agentOn r k .present) (agentOn r k .agent) _ b x refl sp
 
-  moves-delivers : (p : Packet) (t : Address) → Split r (resent p t (p .rejected) ∷ []) rest
+  moves-delivers : (p : Packet) (t : Address) → (p .carried .present ≡ false → p .rejected ≡ true → ⊥) → Split r (resent p t (p .rejected) ∷ []) rest
       → Says (Moves r (machineAt t) (clientNamed (p .message)) (resent p t (p .rejected)) rest) (verdict r (resent p t (p .rejected)))
   unfolding delivers atDecider atMachine
-  moves-delivers p ToDecider sp = moves-decides _ (clientNamed (p .message)) p (p .message) (r .decider .owner) (p .carried .present) refl sp
-  moves-delivers p (ToMachine k) sp = moves-arrives k p (p .message) (p .rejected) (p .carried .present) sp
+  moves-delivers p ToDecider e sp = moves-decides _ (clientNamed (p .message)) p (p .message) (r .decider .owner) (p .carried .present) refl sp
+  moves-delivers p (ToMachine k) e sp = moves-arrives k p (p .message) (p .rejected) (p .carried .present) e sp
 
 -- ---- a client that holds releases
 whole-wire : (r : LockState) → Split r [] (packets (r .wire))
@@ -297,7 +307,7 @@ deliver-falls r i p ps e =
     let good : Good r (machineAt (p .to)) (clientNamed (p .message)) ps (verdict r p) = rw e at (good-deliver r i 0 (rw e (omega arith))) in
     rw e
     (after-step _ _ (Moves r (machineAt (p .to)) (clientNamed (p .message)) p ps) (λ s. rank s < rank r) (verdict r p) ps r good
-    (moves-delivers r ps p (p .to) sp) (by-move (machineAt (p .to)) (clientNamed (p .message))))
+    (moves-delivers r ps p (p .to) (rejected-carries-one r i ps p sp) sp) (by-move (machineAt (p .to)) (clientNamed (p .message))))
   where
     by-move : (k : MachineId) (c : ClientId) (v : Site) (qs : List Packet) → Moves r k c p ps v qs → rank (apply k c v qs ps r) < rank r
     by-move k c v qs (lowers h) = less-work (apply k c v qs ps r) r h

@@ -1,12 +1,12 @@
 -- The statuses are what the trace says: which client's status each step writes, and as what.
 use Rattle.laws.specs.CallSteps.{lockOf, stepOf, Allowed, may-acquire, may-release, may-deliver, perform-elsewhere}
-use Rattle.theorems.specs.Names.{LockId, MachineId, ClientId, Mode, Owner, Unowned, Owned, Agent, AgentSlot, Address, ToDecider, ToMachine, Message, Free, Acquire, Grant, Release, Packet, Status, Idle, Waiting, Holding, ClientState, LockState, Cluster, Call, AcquireCall, ReleaseCall, DeliverCall, WireFull, _≡_, refl, sym, ap, _∙_, Bool, true, false, _&&_, not, and-false, List, [], _∷_, ℕ, _+_, _<_, arith, ℕ-discrete, length, getD, set-getD, getD-set-same, getD-set-other, leb, eq-eqb, ne-eqb, pick, any, removed, clientOf, machineOf, modeOf, isShared, someAgent, agentOn, listed, idle, statusOf, plain, lockIn, noAgent, packets, Verdict, cannot-place, does, Site, siteOf, withSlot, withStatus, apply, accepted, finish, anyHolder, without, staysIf, joining, queuing, noRoom, mayJoin, lists, clientAsks, clientAcquires, clientReleases, current, toOwner, decidesAcquire, decidesFree, decidesGrant, decides, atDecider, installs, grantArrives, marked, unmarked, acquireArrives, releaseArrives, freeArrives, arrives, atMachine, names, machineAt, clientNamed, packetAt, delivers, acquireStep, releaseStep, takes, deliverStep, perform, run, View, isAccepted, toMachine, isGrantFor, showsGrant, afterAcquire, afterGrant, sees, watch, bool-cases, clients, wireCapacity, inParts, mayShare}
+use Rattle.theorems.specs.Names.{LockId, MachineId, ClientId, Mode, Owner, Unowned, Owned, Agent, AgentSlot, Address, ToDecider, ToMachine, Message, Free, Acquire, Grant, Release, Packet, Status, Idle, Waiting, Holding, ClientState, LockState, Cluster, Call, AcquireCall, ReleaseCall, DeliverCall, WireFull, _≡_, refl, sym, ap, _∙_, Bool, true, false, _&&_, not, and-false, List, [], _∷_, ℕ, _+_, _<_, arith, ℕ-discrete, length, getD, set-getD, getD-set-same, getD-set-other, leb, eq-eqb, ne-eqb, pick, any, removed, clientOf, machineOf, modeOf, isShared, someAgent, agentOn, listed, idle, statusOf, plain, lockIn, noAgent, packets, Verdict, cannot-place, does, Site, siteOf, withSlot, withStatus, apply, accepted, finish, anyHolder, without, staysIf, joining, queuing, noRoom, mayJoin, lists, clientAsks, clientAcquires, clientReleases, current, toOwner, decidesAcquire, decidesFree, decidesGrant, decides, atDecider, installs, grantArrives, rejectedGrantArrives, marked, unmarked, acquireArrives, releaseArrives, freeArrives, arrives, atMachine, names, machineAt, clientNamed, packetAt, delivers, acquireStep, releaseStep, takes, deliverStep, perform, run, View, isAccepted, toMachine, isGrantFor, showsGrant, afterAcquire, afterGrant, sees, watch, bool-cases, clients, wireCapacity, inParts, mayShare}
 use Rattle.model.specs.Changes.{refused}
 use Rattle.theorems.specs.Tally.{tally, tally-at}
 use Rattle.theorems.specs.Weights.{statusAt, slotAt, weight, askM, waitingP, listedS}
 use Rattle.theorems.specs.Invariant.{Inv}
 use Rattle.theorems.specs.InvariantStep.{Split, split-at, told, untold}
-use Rattle.theorems.specs.Facts.{flag-none, slot-home, waiter-below, hit-self, grant-waits, rejected-carries-one}
+use Rattle.theorems.specs.Facts.{flag-none, slot-home, waiter-below, hit-self, grant-waits}
 use Rattle.theorems.specs.Sent.{Good}
 use Rattle.theorems.specs.Clients.{names-none, unlisted, good-client-acquires, good-client-releases}
 use Rattle.theorems.specs.Steps.{verdict, good-deliver, Says, says-by, after-step}
@@ -170,21 +170,25 @@ module _ (v : Site) where
   free-quiet true x = tt
   free-quiet false x = refl
 
-  grant-tells : (k : MachineId) (y x b : Bool) (a : Agent) (c : ClientId) (m : Mode) → (x ≡ false → b ≡ true → ⊥) → Says (Tells (ToMachine k) (Grant c m) b v) (grantArrives y x b v a c m)
+  grant-tells : (k : MachineId) (y x : Bool) (a : Agent) (c : ClientId) (m : Mode) → Says (Tells (ToMachine k) (Grant c m) false v) (grantArrives y x v a c m)
   unfolding grantArrives installs
-  grant-tells k y false false a c m n = refl
-  grant-tells k y false true a c m n = absurd (n refl refl)
-  grant-tells k true true b a c m n = tt
-  grant-tells k false true false a c m n = refl
-  grant-tells k false true true a c m n = bool-cases (noRoom a c) (λ z. rw z tt) (λ z. rw z refl)
+  grant-tells k y false a c m = refl
+  grant-tells k true true a c m = tt
+  grant-tells k false true a c m = refl
 
-  delivers-tells : (p : Packet) (t : Address) (m : Message) (b x : Bool) → (x ≡ false → b ≡ true → ⊥) → Says (Tells t m b v) (delivers t v (inParts m t b x p))
+  rejected-quiet : (y : Bool) (a : Agent) (c : ClientId) (m : Mode) → Says Quiet (rejectedGrantArrives y v a c m)
+  unfolding rejectedGrantArrives
+  rejected-quiet true a c m = tt
+  rejected-quiet false a c m = bool-cases (noRoom a c) (λ z. rw z tt) (λ z. rw z refl)
+
+  delivers-tells : (p : Packet) (t : Address) (m : Message) (b x : Bool) → Says (Tells t m b v) (delivers t v (inParts m t b x p))
   unfolding delivers atDecider atMachine arrives
-  delivers-tells p ToDecider m b x n = decider-quiet m (v .decider .owner) _
-  delivers-tells p (ToMachine k) (Acquire c m g) b x n = acquire-quiet (v .slot .present) (v .slot .agent) _ c m g
-  delivers-tells p (ToMachine k) (Release c) b x n = release-quiet _ c
-  delivers-tells p (ToMachine k) Free b x n = free-quiet (v .slot .present) _
-  delivers-tells p (ToMachine k) (Grant c m) b x n = grant-tells k (v .slot .present) x b (p .carried .agent) c m n
+  delivers-tells p ToDecider m b x = decider-quiet m (v .decider .owner) _
+  delivers-tells p (ToMachine k) (Acquire c m g) b x = acquire-quiet (v .slot .present) (v .slot .agent) _ c m g
+  delivers-tells p (ToMachine k) (Release c) b x = release-quiet _ c
+  delivers-tells p (ToMachine k) Free b x = free-quiet (v .slot .present) _
+  delivers-tells p (ToMachine k) (Grant c m) false x = grant-tells k (v .slot .present) x (p .carried .agent) c m
+  delivers-tells p (ToMachine k) (Grant c m) true x = rejected-quiet (v .slot .present) (p .carried .agent) c m
 
 module _ (s : LockState) (i : Inv s) (rest : List Packet) (c : ClientId) where
   -- the phase by the trace, where the packet that is delivered has these parts
@@ -220,7 +224,7 @@ delivered-now s i j h c v e =
     let rest : List Packet = removed (packets (s .wire)) j in
     let sp : Split s (p ∷ []) rest = split-at s j p h refl in
     after-step _ _ (Tells (p .to) (p .message) (p .rejected) (siteOf s (machineAt (p .to)) (clientNamed (p .message)))) (λ u. Seen s i rest c (p .to) (p .message) (p .rejected) v (statusOf u c)) (verdict s p) rest s (good-deliver s i j h)
-    (delivers-tells _ p (p .to) (p .message) (p .rejected) (p .carried .present) (rejected-carries-one s i rest p sp))
+    (delivers-tells _ p (p .to) (p .message) (p .rejected) (p .carried .present))
     (tells-seen s i rest c p (p .to) (p .message) (p .rejected) v e sp (machineAt (p .to)))
 
 -- ---- one call, on its own lock

@@ -8,15 +8,11 @@ returns c = rw (c .cannot-place .ensures, c .before .before .if1 .taken, c .befo
 
 returns-2 : tie.Need-returns-2
 unfolding grantArrives
-returns-2 c = rw (c .queue-first .ensures, c .before .before .before .if1 .taken, c .before .before .if2 .left, c .before .if3 .taken)
+returns-2 c = rw (c .install .ensures, c .before .before .if1 .taken, c .before .if2 .left)
 
 returns-3 : tie.Need-returns-3
 unfolding grantArrives
-returns-3 c = rw (c .install .ensures, c .before .before .before .if1 .taken, c .before .before .if2 .left, c .before .if3 .left)
-
-returns-4 : tie.Need-returns-4
-unfolding grantArrives
-returns-4 c = rw (c .doing .ensures, c .before .no-packet .ensures, c .before .before .with-status .ensures, c .before .before .before .if1 .left)
+returns-3 c = rw (c .doing .ensures, c .before .no-packet .ensures, c .before .before .with-status .ensures, c .before .before .before .if1 .left)
 
 pub grant-arrives-spec : {M : Type 1} → statement M
-grant-arrives-spec = tie.close (tie.spec (λ c κs. search needs) (λ c κs. search needs) (λ c κs. search needs) (λ c κs. search needs) (λ c κs. search needs) (λ c κs. search needs) returns returns-2 returns-3 returns-4)
+grant-arrives-spec = tie.close (tie.spec (λ c κs. search needs) (λ c κs. search needs) (λ c κs. search needs) (λ c κs. search needs) (λ c κs. search needs) returns returns-2 returns-3)
