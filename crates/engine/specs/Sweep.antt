@@ -9,7 +9,8 @@ use lib.ListN.{length, drop, getD, set, drop-of-length-le}
 use lib.Seq.{set-set, set-getD, getD-set-same, drop-cons}
 use borrow.Author.Tests.{lt-leb, le-leb}
 use Rattle.model.specs.Lists.{pick}
-use Rattle.engine.specs.Names.{LockId, Packet, ClientState, LockState, Cluster, Call, ReleaseCall, DeliverCall, Refusal, Malformed, LockRange, NotQuiescent, Answer, Accepted, Refused, Stepped}
+use Rattle.engine.specs.Names.{LockId, Packet, ClientState, LockState, Cluster, Call, ReleaseCall, DeliverCall, Refusal, Malformed, LockRange}
+use Rattle.engine.specs.Names.{NotQuiescent, Answer, Accepted, Refused, Stepped}
 use Rattle.model.specs.States.{locks, tasks, clients, packets, lockIn, freshLock}
 use Rattle.model.specs.WellFormed.{lockFormed, wellFormed}
 use Rattle.model.specs.Refusals.{first}

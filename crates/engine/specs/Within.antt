@@ -9,7 +9,9 @@ use lib.Seq.{set-getD}
 use lib.Dec.{eqb, leb}
 use borrow.Author.Tests.{le-leb, lt-leb, leb-false}
 use native.Mathlib.Omega.{arith}
-use Rattle.engine.specs.Names.{LockId, MachineId, TaskId, ClientId, Refusal, Malformed, LockRange, MachineRange, TaskRange, ModeRange, NotIdle, StillNamed, NotHolding, IndexRange, Answer, Accepted, Refused, LockState, Cluster, Call, AcquireCall, ReleaseCall, DeliverCall, Stepped, Outcome}
+use Rattle.engine.specs.Names.{LockId, MachineId, TaskId, ClientId, Refusal, Malformed, LockRange, MachineRange, TaskRange, ModeRange, NotIdle}
+use Rattle.engine.specs.Names.{StillNamed, NotHolding, IndexRange, Answer, Accepted, Refused, LockState, Cluster, Call, AcquireCall, ReleaseCall}
+use Rattle.engine.specs.Names.{DeliverCall, Stepped, Outcome}
 use Rattle.model.specs.Lists.{any}
 use Rattle.model.specs.States.{locks, machines, tasks, clientOf, modeOf, statusOf, packets, freshLock, lockIn}
 use Rattle.model.specs.WellFormed.{wellFormed}

@@ -27,7 +27,9 @@ ghost use lib.Dec.{eqb};
 ghost use Rattle.model.specs.Lists.{all};
 ghost use Rattle.model.specs.States.{locks, machines, clients, queueCapacity, wireCapacity, isShared};
 ghost use Rattle.model.specs.declared.Message.the-variants.{Free};
-ghost use Rattle.model.specs.WellFormed.{clientInRange, ownerInRange, addressInRange, shaped, isBlankWaiter, distinct, waiterInRange, queueFormed, agentFormed, isBlankAgent, slotFormed, toDecider, messageFormed, packetFormed, isFree, isBlankPacket, wireFormed, lockFormed, wellFormed};
+ghost use Rattle.model.specs.WellFormed.{clientInRange, ownerInRange, addressInRange, shaped, isBlankWaiter, distinct, waiterInRange, queueFormed, agentFormed};
+ghost use Rattle.model.specs.WellFormed.{isBlankAgent, slotFormed, toDecider, messageFormed, packetFormed, isFree, isBlankPacket, wireFormed, lockFormed};
+ghost use Rattle.model.specs.WellFormed.{wellFormed};
 
 // ---- blank slots
 fn is_exclusive(m: Mode) -> bool

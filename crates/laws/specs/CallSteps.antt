@@ -8,12 +8,14 @@ use lib.Seq.{getD-set-same, getD-set-other}
 use lib.Dec.{eqb, leb}
 use borrow.Author.Tests.{eqb-true, leb-true, leb-false, not-false}
 use Rattle.model.specs.Lists.{pick, any, all, removed}
-use Rattle.laws.specs.Names.{LockId, MachineId, TaskId, ClientId, Mode, Exclusive, Shared, Packet, Status, Idle, Waiting, Holding, LockState, Cluster, Call, AcquireCall, ReleaseCall, DeliverCall, Refusal, Malformed, WireFull, Answer, Accepted, Refused, Stepped, Outcome}
+use Rattle.laws.specs.Names.{LockId, MachineId, TaskId, ClientId, Mode, Exclusive, Shared, Packet, Status, Idle, Waiting, Holding, LockState, Cluster}
+use Rattle.laws.specs.Names.{Call, AcquireCall, ReleaseCall, DeliverCall, Refusal, Malformed, WireFull, Answer, Accepted, Refused, Stepped, Outcome}
 use Rattle.model.specs.States.{clientOf, modeOf, modeNumber, statusOf, packets, lockIn, freshLock, locks, machines, tasks, wireCapacity}
 use Rattle.model.specs.WellFormed.{wellFormed}
 use Rattle.model.specs.Changes.{Verdict, cannot-place, does, apply, accepted, refused, finish}
 use Rattle.model.specs.Refusals.{refusalNumber, Cause, _when_, first}
-use Rattle.model.specs.Calls.{isIdle, isHolding, names, acquireStep, releaseStep, takes, deliverStep, acquireCauses, releaseCauses, deliverCauses, refusing, settled, unless, acquire, release, deliver, perform}
+use Rattle.model.specs.Calls.{isIdle, isHolding, names, acquireStep, releaseStep, takes, deliverStep, acquireCauses, releaseCauses, deliverCauses, refusing}
+use Rattle.model.specs.Calls.{settled, unless, acquire, release, deliver, perform}
 use Rattle.laws.specs.Tests.{and-left, and-right}
 use Rattle.laws.specs.Formed.{all-locks}
 

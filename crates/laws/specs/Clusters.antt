@@ -17,7 +17,8 @@ use Rattle.laws.specs.Formed.{no-agent-formed, all-locks, lock-formed}
 use Rattle.laws.specs.Lists.{all-set, all-replicate}
 use Rattle.laws.specs.Making.{wire-formed}
 use Rattle.laws.specs.FormedStep.{acquire-formed, release-formed, deliver-formed}
-use Rattle.laws.specs.CallSteps.{lockOf, stepOf, outcomeOf, Allowed, may-acquire, may-release, may-deliver, CallCases, denied, passed, call-cases, perform-elsewhere, perform-here}
+use Rattle.laws.specs.CallSteps.{lockOf, stepOf, outcomeOf, Allowed, may-acquire, may-release, may-deliver, CallCases, denied, passed, call-cases}
+use Rattle.laws.specs.CallSteps.{perform-elsewhere, perform-here}
 
 pub fresh-lock-formed : lockFormed freshLock ≡ true
 unfolding lockFormed freshLock

@@ -9,9 +9,12 @@ use lib.Seq.{length-take-le}
 use lib.Dec.{eqb, leb}
 use borrow.Author.Tests.{eqb-true, leb-true, not-true}
 use Rattle.model.specs.Lists.{all, padded}
-use Rattle.laws.specs.Names.{LockId, MachineId, Mode, Exclusive, Shared, Address, ToDecider, ToMachine, Message, Free, Acquire, Grant, Release, Waiter, Queue, Agent, AgentSlot, Packet, Wire, LockState, Cluster}
-use Rattle.model.specs.States.{blankPacket, blankWaiter, packets, agentOn, noAgent, newAgent, queueOf, noHolders, isShared, freshLock, lockIn, locks, machines, clients, queueCapacity, wireCapacity}
-use Rattle.model.specs.WellFormed.{shaped, isBlankWaiter, distinct, queueFormed, agentFormed, isBlankAgent, slotBy, slotFormed, isFree, toDecider, isBlankPacket, messageFormed, addressInRange, packetFormed, wireFormed, ownerInRange, lockFormed, wellFormed}
+use Rattle.laws.specs.Names.{LockId, MachineId, Mode, Exclusive, Shared, Address, ToDecider, ToMachine, Message, Free, Acquire, Grant, Release, Waiter}
+use Rattle.laws.specs.Names.{Queue, Agent, AgentSlot, Packet, Wire, LockState, Cluster}
+use Rattle.model.specs.States.{blankPacket, blankWaiter, packets, agentOn, noAgent, newAgent, queueOf, noHolders, isShared, freshLock, lockIn, locks, machines}
+use Rattle.model.specs.States.{clients, queueCapacity, wireCapacity}
+use Rattle.model.specs.WellFormed.{shaped, isBlankWaiter, distinct, queueFormed, agentFormed, isBlankAgent, slotBy, slotFormed, isFree, toDecider}
+use Rattle.model.specs.WellFormed.{isBlankPacket, messageFormed, addressInRange, packetFormed, wireFormed, ownerInRange, lockFormed, wellFormed}
 use Rattle.model.specs.Calls.{packetAt}
 use Rattle.laws.specs.Tests.{and-left, and-right}
 use Rattle.laws.specs.Lists.{all-at, all-getD, all-same, Canonical}

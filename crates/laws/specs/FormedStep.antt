@@ -8,18 +8,22 @@ use lib.ListN.{length, set, length-append, length-set}
 use lib.Dec.{leb}
 use borrow.Author.Tests.{eq-eqb, lt-ltb, leb-true, leb-false}
 use Rattle.model.specs.Lists.{pick, any, all, removed}
-use Rattle.laws.specs.Names.{MachineId, ClientId, Mode, Shared, Owner, Unowned, Owned, Waiter, Agent, AgentSlot, Address, ToDecider, ToMachine, Message, Free, Acquire, Grant, Release, Packet, Idle, Waiting, Site, LockState, WireFull}
+use Rattle.laws.specs.Names.{MachineId, ClientId, Mode, Shared, Owner, Unowned, Owned, Waiter, Agent, AgentSlot, Address, ToDecider, ToMachine, Message}
+use Rattle.laws.specs.Names.{Free, Acquire, Grant, Release, Packet, Idle, Waiting, Site, LockState, WireFull}
 use Rattle.model.specs.States.{resent, queueOf, waiters, packets, someAgent, newAgent, machineOf, isShared, machines, clients, queueCapacity, wireCapacity}
 use Rattle.model.specs.WellFormed.{clientInRange, ownerInRange, addressInRange, isClient, waiterInRange, slotFormed, messageFormed, packetFormed, lockFormed}
 use Rattle.model.specs.Changes.{siteOf, withSlot, withStatus, Verdict, cannot-place, does, apply, accepted, refused, finish}
-use Rattle.model.specs.Asking.{changed, queuing, noRoom, withRoom, mayJoin, clientAsks, clientAcquires, anyHolder, without, handOver, staysIf, leaves, lists, clientReleases}
+use Rattle.model.specs.Asking.{changed, queuing, noRoom, withRoom, mayJoin, clientAsks, clientAcquires, anyHolder, without, handOver, staysIf, leaves, lists}
+use Rattle.model.specs.Asking.{clientReleases}
 use Rattle.model.specs.AtDecider.{toOwner, grantsWith, mayShare, decidesAcquire, current, decidesFree, decidesGrant, decides, atDecider}
-use Rattle.model.specs.AtMachine.{sentBack, admitted, joined, grantOf, requeued, installs, grantArrives, rejectedGrantArrives, marked, unmarked, acquireArrives, releaseArrives, freeArrives, arrives, atMachine}
+use Rattle.model.specs.AtMachine.{sentBack, admitted, joined, grantOf, requeued, installs, grantArrives, rejectedGrantArrives, marked, unmarked, acquireArrives}
+use Rattle.model.specs.AtMachine.{releaseArrives, freeArrives, arrives, atMachine}
 use Rattle.model.specs.Calls.{delivers, packetAt, acquireStep, releaseStep, takes, deliverStep}
 use Rattle.laws.specs.Tests.{and-left, and-right, both, or-left, or-right}
 use Rattle.laws.specs.Lists.{all-append, all-removed, all-set, left-out, whole, sublist-all}
 use Rattle.laws.specs.Formed.{Fit, fit, new-fit, no-agent-formed, Whole, Parts, parts, agent-on, packet-at, inParts}
-use Rattle.laws.specs.Making.{machine-in-range, Line, line, line-sublist, line-end, line-front, queue-formed, fit-holder, some-agent-formed, packet-formed, plain-whole, carrying-whole, resent-whole, wire-formed}
+use Rattle.laws.specs.Making.{machine-in-range, Line, line, line-sublist, line-end, line-front, queue-formed, fit-holder, some-agent-formed}
+use Rattle.laws.specs.Making.{packet-formed, plain-whole, carrying-whole, resent-whole, wire-formed}
 use Rattle.laws.specs.Parting.{parting, sublists, length-joined}
 
 -- every packet sent is well formed

@@ -10,8 +10,10 @@ use lib.Dec.{eqb, leb}
 use borrow.Author.Tests.{eqb-false, ltb-true, lt-ltb, le-leb, eq-eqb, ne-eqb, not-true}
 use Rattle.model.specs.Lists.{any, all, padded}
 use Rattle.laws.specs.Names.{ClientId, Address, Message, Waiter, Queue, Agent, Packet}
-use Rattle.model.specs.States.{plain, blankWaiter, blankPacket, queueOf, waiters, wireOf, someAgent, noAgent, machineOf, machines, clients, queueCapacity, wireCapacity, carrying, resent}
-use Rattle.model.specs.WellFormed.{clientInRange, machineInRange, addressInRange, shaped, isBlankWaiter, isClient, distinct, waiterInRange, queueFormed, agentFormed, isBlankAgent, slotFormed, messageFormed, packetFormed, isBlankPacket, wireFormed}
+use Rattle.model.specs.States.{plain, blankWaiter, blankPacket, queueOf, waiters, wireOf, someAgent, noAgent, machineOf, machines, clients, queueCapacity}
+use Rattle.model.specs.States.{wireCapacity, carrying, resent}
+use Rattle.model.specs.WellFormed.{clientInRange, machineInRange, addressInRange, shaped, isBlankWaiter, isClient, distinct, waiterInRange, queueFormed}
+use Rattle.model.specs.WellFormed.{agentFormed, isBlankAgent, slotFormed, messageFormed, packetFormed, isBlankPacket, wireFormed}
 use Rattle.model.specs.Asking.{changed}
 use Rattle.laws.specs.Tests.{and-left, and-right, both, or-left, or-right}
 use Rattle.laws.specs.Lists.{take-padded, all-append, all-replicate, none-end, Sublist, empty, kept, left-out, sublist-length, sublist-all, sublist-none}

@@ -7,7 +7,8 @@ use native.Mathlib.Omega.{arith}
 use lib.ListN.{length, getD}
 use borrow.Author.Tests.{lt-leb}
 use Rattle.model.specs.Lists.{pick}
-use Rattle.laws.specs.Names.{LockId, MachineId, TaskId, Mode, Packet, Status, Idle, Waiting, Holding, ClientState, LockState, Cluster, Call, ReleaseCall, DeliverCall}
+use Rattle.laws.specs.Names.{LockId, MachineId, TaskId, Mode, Packet, Status, Idle, Waiting, Holding, ClientState, LockState, Cluster, Call, ReleaseCall}
+use Rattle.laws.specs.Names.{DeliverCall}
 use Rattle.model.specs.States.{clientOf, statusOf, idle, packets, lockIn, locks, machines, tasks, clients}
 use Rattle.model.specs.WellFormed.{wellFormed}
 use Rattle.model.specs.Refusals.{first}

@@ -5,7 +5,8 @@ use Prim.Native.Nat.{ℕ}
 use lib.ListN.{length, set}
 use lib.Dec.{leb}
 use Rattle.model.specs.Lists.{pick, any}
-use Rattle.model.specs.Names.{ClientId, Mode, Waiter, Queue, Agent, AgentSlot, ToDecider, Message, Free, Acquire, Grant, Release, Packet, Idle, Waiting, Holding, Site}
+use Rattle.model.specs.Names.{ClientId, Mode, Waiter, Queue, Agent, AgentSlot, ToDecider, Message, Free, Acquire, Grant, Release, Packet, Idle, Waiting}
+use Rattle.model.specs.Names.{Holding, Site}
 use Rattle.model.specs.States.{queueCapacity, queueOf, waiters, someAgent, noAgent, listed, plain, carrying, isShared}
 use Rattle.model.specs.WellFormed.{isClient}
 use Rattle.model.specs.Changes.{Verdict, cannot-place, does, withSlot, withStatus}

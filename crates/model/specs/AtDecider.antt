@@ -4,7 +4,8 @@ use mathlib.Core.List.{[], _∷_}
 use Prim.Native.Nat.{ℕ, _+_, _%_}
 use lib.Dec.{eqb}
 use Rattle.model.specs.Lists.{pick}
-use Rattle.model.specs.Names.{MachineId, ClientId, Mode, Shared, Owner, Unowned, Owned, Decider, Agent, ToMachine, Message, Free, Acquire, Grant, Release, Packet, Site}
+use Rattle.model.specs.Names.{MachineId, ClientId, Mode, Shared, Owner, Unowned, Owned, Decider, Agent, ToMachine, Message, Free, Acquire, Grant, Release}
+use Rattle.model.specs.Names.{Packet, Site}
 use Rattle.model.specs.States.{newAgent, plain, carrying, resent, machineOf, isShared, unowned}
 use Rattle.model.specs.Changes.{Verdict, cannot-place, does, withDecider}
 use Rattle.model.specs.Asking.{changed}

@@ -5,7 +5,10 @@ use Prim.Native.Nat.{ℕ}
 use lib.ListN.{length, getD, set}
 use lib.Dec.{eqb, leb}
 use Rattle.model.specs.Lists.{any, removed}
-use Rattle.model.specs.Names.{LockId, MachineId, TaskId, ClientId, Mode, Address, ToDecider, ToMachine, Message, Free, Acquire, Grant, Release, Packet, Status, Idle, Waiting, Holding, LockState, Cluster, Call, AcquireCall, ReleaseCall, DeliverCall, Malformed, LockRange, MachineRange, TaskRange, ModeRange, NotIdle, StillNamed, NotHolding, IndexRange, Refusal, Answer, Accepted, Refused, Stepped, Outcome, Site}
+use Rattle.model.specs.Names.{LockId, MachineId, TaskId, ClientId, Mode, Address, ToDecider, ToMachine, Message, Free, Acquire, Grant, Release, Packet}
+use Rattle.model.specs.Names.{Status, Idle, Waiting, Holding, LockState, Cluster, Call, AcquireCall, ReleaseCall, DeliverCall, Malformed, LockRange}
+use Rattle.model.specs.Names.{MachineRange, TaskRange, ModeRange, NotIdle, StillNamed, NotHolding, IndexRange, Refusal, Answer, Accepted, Refused}
+use Rattle.model.specs.Names.{Stepped, Outcome, Site}
 use Rattle.model.specs.States.{locks, machines, tasks, clientOf, machineOf, modeOf, statusOf, packets, blankPacket, lockIn, fresh}
 use Rattle.model.specs.WellFormed.{wellFormed}
 use Rattle.model.specs.Changes.{siteOf, Verdict, finish}

@@ -5,7 +5,8 @@ use Prim.Native.Nat.{_+_}
 use lib.ListN.{length, set}
 use lib.Dec.{leb}
 use Rattle.model.specs.Lists.{pick}
-use Rattle.model.specs.Names.{MachineId, ClientId, Decider, AgentSlot, Packet, Status, Site, LockState, Refusal, CannotPlace, WireFull, Accepted, Refused, Stepped}
+use Rattle.model.specs.Names.{MachineId, ClientId, Decider, AgentSlot, Packet, Status, Site, LockState, Refusal, CannotPlace, WireFull, Accepted, Refused}
+use Rattle.model.specs.Names.{Stepped}
 use Rattle.model.specs.States.{wireCapacity, wireOf, agentOn, statusOf}
 
 -- The site: what a rule looks at and may write.

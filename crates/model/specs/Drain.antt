@@ -5,7 +5,8 @@ use Prim.Native.Nat.{ℕ, zero, suc, _/_, _%_}
 use lib.ListN.{length}
 use lib.Dec.{leb}
 use Rattle.model.specs.Lists.{pick}
-use Rattle.model.specs.Names.{LockId, Packet, ClientState, LockState, Cluster, Call, ReleaseCall, DeliverCall, Refusal, Malformed, LockRange, NotQuiescent, Answer, Accepted, Refused, Drained}
+use Rattle.model.specs.Names.{LockId, Packet, ClientState, LockState, Cluster, Call, ReleaseCall, DeliverCall, Refusal, Malformed, LockRange}
+use Rattle.model.specs.Names.{NotQuiescent, Answer, Accepted, Refused, Drained}
 use Rattle.model.specs.States.{locks, tasks, packets, lockIn}
 use Rattle.model.specs.WellFormed.{wellFormed}
 use Rattle.model.specs.Refusals.{_when_, first}

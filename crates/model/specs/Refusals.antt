@@ -2,7 +2,8 @@
 use mathlib.Core.Bool.{Bool, true, false}
 use mathlib.Core.List.{List, [], _∷_}
 use Prim.Native.Nat.{ℕ}
-use Rattle.model.specs.Names.{Refusal, Malformed, LockRange, MachineRange, TaskRange, ModeRange, NotIdle, StillNamed, NotHolding, IndexRange, CannotPlace, WireFull, BadRecord, TranscriptLength, NotQuiescent, Answer, Accepted, Refused}
+use Rattle.model.specs.Names.{Refusal, Malformed, LockRange, MachineRange, TaskRange, ModeRange, NotIdle, StillNamed, NotHolding, IndexRange, CannotPlace}
+use Rattle.model.specs.Names.{WireFull, BadRecord, TranscriptLength, NotQuiescent, Answer, Accepted, Refused}
 
 abbrev pub refusalNumber : Refusal → ℕ
 -- bench malformed

@@ -5,7 +5,8 @@ use Prim.Native.Nat.{ℕ, _+_, _*_, _/_}
 use lib.ListN.{length, take, getD, replicate}
 use lib.Dec.{eqb}
 use Rattle.model.specs.Lists.{pick, padded}
-use Rattle.model.specs.Names.{LockId, MachineId, TaskId, ClientId, Mode, Exclusive, Shared, Owner, Unowned, Owned, Decider, Waiter, Queue, Agent, AgentSlot, Address, ToDecider, Message, Free, Packet, Wire, Status, Idle, ClientState, LockState, Cluster}
+use Rattle.model.specs.Names.{LockId, MachineId, TaskId, ClientId, Mode, Exclusive, Shared, Owner, Unowned, Owned, Decider, Waiter, Queue, Agent}
+use Rattle.model.specs.Names.{AgentSlot, Address, ToDecider, Message, Free, Packet, Wire, Status, Idle, ClientState, LockState, Cluster}
 
 -- 8 locks (0 to 7), 4 machines (0 to 3), 4 tasks on each machine (0 to 3).
 abbrev pub locks : ℕ

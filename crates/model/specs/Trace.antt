@@ -4,7 +4,8 @@ use mathlib.Core.List.{List, [], _∷_}
 use Prim.Native.Nat.{ℕ, _+_}
 use lib.Dec.{eqb}
 use Rattle.model.specs.Lists.{pick}
-use Rattle.model.specs.Names.{LockId, ClientId, Mode, Address, ToDecider, ToMachine, Message, Free, Acquire, Grant, Release, Packet, Status, Idle, Waiting, Holding, Cluster, Call, AcquireCall, ReleaseCall, DeliverCall, Answer, Accepted, Refused}
+use Rattle.model.specs.Names.{LockId, ClientId, Mode, Address, ToDecider, ToMachine, Message, Free, Acquire, Grant, Release, Packet, Status, Idle}
+use Rattle.model.specs.Names.{Waiting, Holding, Cluster, Call, AcquireCall, ReleaseCall, DeliverCall, Answer, Accepted, Refused}
 use Rattle.model.specs.States.{modeOf, clientOf, machineOf, agentOn, lockIn, fresh}
 use Rattle.model.specs.Asking.{lists}
 use Rattle.model.specs.Calls.{packetAt, perform}

@@ -5,7 +5,8 @@ use Prim.Native.Nat.{ℕ, zero, suc, _+_, _-_, _*_}
 use lib.ListN.{length, getD}
 use lib.Dec.{eqb, leb, ltb}
 use Rattle.model.specs.Lists.{pick}
-use Rattle.model.specs.Names.{Cluster, Call, AcquireCall, ReleaseCall, DeliverCall, Malformed, BadRecord, TranscriptLength, Answer, Accepted, Refused, Reading, Record, Bad, End, Replayed}
+use Rattle.model.specs.Names.{Cluster, Call, AcquireCall, ReleaseCall, DeliverCall, Malformed, BadRecord, TranscriptLength, Answer, Accepted, Refused}
+use Rattle.model.specs.Names.{Reading, Record, Bad, End, Replayed}
 use Rattle.model.specs.WellFormed.{wellFormed}
 use Rattle.model.specs.Refusals.{_when_, first}
 use Rattle.model.specs.Calls.{perform}

@@ -5,7 +5,8 @@ use Prim.Native.Nat.{ℕ}
 use lib.ListN.{length, take, drop}
 use lib.Dec.{eqb, leb, ltb}
 use Rattle.model.specs.Lists.{any, all}
-use Rattle.model.specs.Names.{MachineId, ClientId, Owner, Unowned, Owned, Waiter, Queue, Agent, AgentSlot, Address, ToDecider, ToMachine, Message, Free, Acquire, Grant, Release, Packet, Wire, LockState, Cluster}
+use Rattle.model.specs.Names.{MachineId, ClientId, Owner, Unowned, Owned, Waiter, Queue, Agent, AgentSlot, Address, ToDecider, ToMachine, Message, Free}
+use Rattle.model.specs.Names.{Acquire, Grant, Release, Packet, Wire, LockState, Cluster}
 use Rattle.model.specs.States.{locks, machines, clients, queueCapacity, wireCapacity, isShared}
 
 -- machines 0 to 3, clients 0 to 15

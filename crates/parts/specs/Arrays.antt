@@ -5,7 +5,8 @@ use Prim.Native.Nat.{ℕ, suc, _+_, _-_, _<_, _≤_}
 use native.Mathlib.Numerals.{add-one}
 use native.Mathlib.Omega.{arith}
 use lib.ListN.{length, take, drop, set, getD, replicate, drop-of-length-le, length-set, length-append}
-use lib.Seq.{drop-cons, getD-take, length-take-le, take-suc-set, drop-set-lt, append-snoc, set-split, take-set-lt, take-append-seam, drop-append-seam, take-append-le, set-append-seam, take-suc, take-set-le, getD-set-same, drop-append-add}
+use lib.Seq.{drop-cons, getD-take, length-take-le, take-suc-set, drop-set-lt, append-snoc, set-split, take-set-lt, take-append-seam, drop-append-seam}
+use lib.Seq.{take-append-le, set-append-seam, take-suc, take-set-le, getD-set-same, drop-append-add}
 use lib.Dec.{leb}
 use borrow.Author.Tests.{le-leb, lt-leb}
 use Rattle.model.specs.Lists.{pick, padded, removed}

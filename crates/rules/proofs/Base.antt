@@ -25,7 +25,8 @@ unfoldable pub use Rattle.rules.specs.Admits.{admitsOne}
 pub use Rattle.rules.specs.Deciding.{marked-sent}
 unfoldable pub use Rattle.model.specs.Asking.{mayJoin, clientAsks, clientAcquires, staysIf, clientReleases}
 unfoldable pub use Rattle.model.specs.AtDecider.{toOwner, mayShare, decidesAcquire, decidesFree, decidesGrant, decides, atDecider}
-unfoldable pub use Rattle.model.specs.AtMachine.{joined, installs, grantArrives, rejectedGrantArrives, marked, unmarked, acquireArrives, releaseArrives, freeArrives, arrives, atMachine}
+unfoldable pub use Rattle.model.specs.AtMachine.{joined, installs, grantArrives, rejectedGrantArrives, marked, unmarked, acquireArrives, releaseArrives}
+unfoldable pub use Rattle.model.specs.AtMachine.{freeArrives, arrives, atMachine}
 unfoldable pub use Rattle.model.specs.Calls.{delivers, acquireStep, releaseStep, takes, deliverStep}
 pub use Rattle.laws.specs.Tests.{pick-yes, pick-no}
 pub use Rattle.rules.specs.Plans.{finish-stuck, finish-full, plans-refusal, plans-effect, rest-fits}

@@ -27,7 +27,8 @@ use parts::holders::is_shared;
 ghost use mathlib.Core.Path.{_≡_};
 ghost use mathlib.Core.Bool.{true, false};
 ghost use lib.Dec.{eqb};
-ghost use Rattle.model.specs.AtDecider.{sentOn, toOwner, grantsWith, grantsFirst, mayShare, shares, rejectedTo, decidesAcquire, decidesFree, decidesGrant, decides, atDecider};
+ghost use Rattle.model.specs.AtDecider.{sentOn, toOwner, grantsWith, grantsFirst, mayShare, shares, rejectedTo, decidesAcquire, decidesFree, decidesGrant};
+ghost use Rattle.model.specs.AtDecider.{decides, atDecider};
 ghost use Rattle.rules.specs.Effects.{verdictOf};
 
 // The decider may grant the request beside the holders: lock and request are both shared.

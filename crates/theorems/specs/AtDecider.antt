@@ -1,10 +1,19 @@
 -- Every step at the decider can be placed and keeps the invariant.
-use Rattle.theorems.specs.Names.{MachineId, ClientId, Mode, Exclusive, Shared, Owner, Unowned, Owned, Agent, Address, ToDecider, ToMachine, Message, Free, Acquire, Grant, Release, Packet, Status, Idle, Waiting, Holding, LockState, _≡_, refl, sym, Bool, true, false, _&&_, not, List, [], _∷_, ℕ, _+_, _≤_, _<_, _%_, arith, length, List·getD-eq-default, set-getD, ltb, eqb-true, eqb-false, eq-eqb, ltb-true, ltb-false, all, machineOf, noHolders, unowned, waiters, noAgent, packets, Site, siteOf, withDecider, changed, lists, grantsFirst, shares, current, rejects, passesOn, toOwner, decidesAcquire, decidesFree, decidesGrant, decides, and-left, and-right, both, bool-cases, waiters-of, Decider, _∙_, false≢true, machines, clients, ownedShared, mayShare, slotIn, inParts, plain}
+use Rattle.theorems.specs.Names.{MachineId, ClientId, Mode, Exclusive, Shared, Owner, Unowned, Owned, Agent, Address, ToDecider, ToMachine, Message, Free}
+use Rattle.theorems.specs.Names.{Acquire, Grant, Release, Packet, Status, Idle, Waiting, Holding, LockState, _≡_, refl, sym, Bool, true, false, _&&_, not}
+use Rattle.theorems.specs.Names.{List, [], _∷_, ℕ, _+_, _≤_, _<_, _%_, arith, length, List·getD-eq-default, set-getD, ltb, eqb-true, eqb-false, eq-eqb}
+use Rattle.theorems.specs.Names.{ltb-true, ltb-false, all, machineOf, noHolders, unowned, waiters, noAgent, packets, Site, siteOf, withDecider, changed}
+use Rattle.theorems.specs.Names.{lists, grantsFirst, shares, current, rejects, passesOn, toOwner, decidesAcquire, decidesFree, decidesGrant, decides}
+use Rattle.theorems.specs.Names.{and-left, and-right, both, bool-cases, waiters-of, Decider, _∙_, false≢true, machines, clients, ownedShared, mayShare}
+use Rattle.theorems.specs.Names.{slotIn, inParts, plain}
 use Rattle.theorems.specs.Tally.{flag, tally, tally-at, tally-le, tally-none, tally-add, sumTo, sum-swap, sum-le, sum-one}
-use Rattle.theorems.specs.Weights.{statusAt, slotAt, weight, one, askM, queuedS, waitingP, markM, listedS, listedP, owedM, owedP, releaseM, releaseP, agentS, agentP, incarnationS, incarnationP, markAll, markP, rejectedP, vacantS, holdF, ownedF, clash, farM, farP, farF, ownedMode, misfitS, fitsAway, fitsFree, inRange, fits, fitsP, misfitP}
+use Rattle.theorems.specs.Weights.{statusAt, slotAt, weight, one, askM, queuedS, waitingP, markM, listedS, listedP, owedM, owedP, releaseM, releaseP}
+use Rattle.theorems.specs.Weights.{agentS, agentP, incarnationS, incarnationP, markAll, markP, rejectedP, vacantS, holdF, ownedF, clash, farM, farP, farF}
+use Rattle.theorems.specs.Weights.{ownedMode, misfitS, fitsAway, fitsFree, inRange, fits, fitsP, misfitP}
 use Rattle.theorems.specs.Invariant.{Inv}
 use Rattle.theorems.specs.InvariantStep.{Keeps, Split, keep-step, told, untold, keep-calm, vacancy-by, Still, still, keep-resent, framed}
-use Rattle.theorems.specs.Facts.{fit, Zero, absent, nobody, came-fits, near-owner, near-home, named-of, Plain, Request, acquire-of, release-of, plain-request, Away, away-of, away-fits, absent-of, silent-free, silent-equal, free-inc, same-mode, no-others, differ}
+use Rattle.theorems.specs.Facts.{fit, Zero, absent, nobody, came-fits, near-owner, near-home, named-of, Plain, Request, acquire-of, release-of}
+use Rattle.theorems.specs.Facts.{plain-request, Away, away-of, away-fits, absent-of, silent-free, silent-equal, free-inc, same-mode, no-others, differ}
 use Rattle.theorems.specs.Sent.{Good, good-by, may-share, plain-any, request-any, no-marked, no-release, no-free, no-offer, no-freed, impossible, keep-on}
 
 -- ---- the packets that a new owner would not fit

@@ -1,10 +1,21 @@
 -- Every step at a machine can be placed and keeps the invariant.
-use Rattle.theorems.specs.Names.{MachineId, ClientId, Mode, Exclusive, Shared, Owner, Unowned, Owned, Queue, Agent, AgentSlot, Address, ToDecider, ToMachine, Message, Free, Acquire, Grant, Release, Packet, Waiting, Holding, LockState, _≡_, refl, Bool, true, false, _&&_, not, List, [], _∷_, _++_, ℕ, _+_, _≤_, _<_, _%_, arith, length, getD, set, eqb, ltb, ne-eqb, ltb-true, isShared, someAgent, listed, plain, queueOf, waiters, noAgent, cannot-place, does, Site, siteOf, withSlot, withStatus, changed, joining, queuing, noRoom, withRoom, mayJoin, lists, leaves, next, sendsBack, requeued, installs, grantArrives, rejectedGrantArrives, marked, unmarked, acquireArrives, releaseArrives, freeArrives, arrives, clientNamed, and-left, and-right, waiters-of, sym, _∙_, true≢false, machines, clients, ownedShared, both, slotIn, inParts}
+use Rattle.theorems.specs.Names.{MachineId, ClientId, Mode, Exclusive, Shared, Owner, Unowned, Owned, Queue, Agent, AgentSlot, Address, ToDecider}
+use Rattle.theorems.specs.Names.{ToMachine, Message, Free, Acquire, Grant, Release, Packet, Waiting, Holding, LockState, _≡_, refl, Bool, true, false}
+use Rattle.theorems.specs.Names.{_&&_, not, List, [], _∷_, _++_, ℕ, _+_, _≤_, _<_, _%_, arith, length, getD, set, eqb, ltb, ne-eqb, ltb-true, isShared}
+use Rattle.theorems.specs.Names.{someAgent, listed, plain, queueOf, waiters, noAgent, cannot-place, does, Site, siteOf, withSlot, withStatus, changed}
+use Rattle.theorems.specs.Names.{joining, queuing, noRoom, withRoom, mayJoin, lists, leaves, next, sendsBack, requeued, installs, grantArrives}
+use Rattle.theorems.specs.Names.{rejectedGrantArrives, marked, unmarked, acquireArrives, releaseArrives, freeArrives, arrives, clientNamed, and-left}
+use Rattle.theorems.specs.Names.{and-right, waiters-of, sym, _∙_, true≢false, machines, clients, ownedShared, both, slotIn, inParts}
 use Rattle.theorems.specs.Tally.{flag, tally, tally-append, tally-at}
-use Rattle.theorems.specs.Weights.{statusAt, slotAt, weight, sameMode, one, hit, hitW, askM, queuedS, waitingP, markM, listedS, listedP, owedM, releaseM, releaseP, agentS, agentP, incarnationS, markAll, rejectedP, heads, vacantS, waitF, holdF, idleF, clash, ownedMode, ownedAt, few, fitsAway, fitsFree, fits, misfitP}
+use Rattle.theorems.specs.Weights.{statusAt, slotAt, weight, sameMode, one, hit, hitW, askM, queuedS, waitingP, markM, listedS, listedP, owedM, releaseM}
+use Rattle.theorems.specs.Weights.{releaseP, agentS, agentP, incarnationS, markAll, rejectedP, heads, vacantS, waitF, holdF, idleF, clash, ownedMode}
+use Rattle.theorems.specs.Weights.{ownedAt, few, fitsAway, fitsFree, fits, misfitP}
 use Rattle.theorems.specs.Invariant.{Inv}
 use Rattle.theorems.specs.InvariantStep.{Keeps, Split, untold, keep, keep-calm, vacancy-by, framed, still}
-use Rattle.theorems.specs.Facts.{fit, Zero, absent, list-on, came-fits, Plain, Request, acquire-of, release-of, plain-request, Away, away-of, Home, home-fits, slot-home, few-less, status-move, in-slot, clash-none, shared-owner, none-away, rejected-carries-one, none-rejected, none-vacant, one-self, lists-one, asker-unlisted, joins-fits, joins-heads, few-zero, flag-le, drop-last, grant-waits, unshared}
+use Rattle.theorems.specs.Facts.{fit, Zero, absent, list-on, came-fits, Plain, Request, acquire-of, release-of, plain-request, Away, away-of, Home}
+use Rattle.theorems.specs.Facts.{home-fits, slot-home, few-less, status-move, in-slot, clash-none, shared-owner, none-away, rejected-carries-one}
+use Rattle.theorems.specs.Facts.{none-rejected, none-vacant, one-self, lists-one, asker-unlisted, joins-fits, joins-heads, few-zero, flag-le, drop-last}
+use Rattle.theorems.specs.Facts.{grant-waits, unshared}
 use Rattle.theorems.specs.Sent.{Good, good-by, may-join, request-any, no-marked, no-free, no-early, impossible, keep-on, shared-is}
 use Rattle.theorems.specs.Waiters.{room-waiting}
 use Rattle.theorems.specs.Leaving.{Leaver, keep-leaves}

@@ -6,11 +6,14 @@ use mathlib.Core.List.{List, [], _∷_}
 use Prim.Native.Nat.{ℕ}
 use lib.ListN.{set, replicate}
 use Rattle.model.specs.Lists.{any, all, padded}
-use Rattle.theorems.specs.Names.{MachineId, ClientId, Exclusive, Shared, Unowned, Owned, Waiter, Queue, AgentSlot, Address, ToDecider, ToMachine, Message, Free, Acquire, Grant, Release, Packet, Wire, LockState, machines, clients, plain, carrying, inParts, Owner, _+_, locks, tasks, queueCapacity, wireCapacity}
+use Rattle.theorems.specs.Names.{MachineId, ClientId, Exclusive, Shared, Unowned, Owned, Waiter, Queue, AgentSlot, Address, ToDecider, ToMachine, Message}
+use Rattle.theorems.specs.Names.{Free, Acquire, Grant, Release, Packet, Wire, LockState, machines, clients, plain, carrying, inParts, Owner, _+_, locks}
+use Rattle.theorems.specs.Names.{tasks, queueCapacity, wireCapacity}
 use Rattle.model.specs.States.{queueOf, newAgent, someAgent, noAgent, idle, blankWaiter, blankPacket, wireOf, noHolders}
 use Rattle.model.specs.Drain.{allowance}
 use Rattle.theorems.specs.Statements.{provedBound}
-use Rattle.model.specs.WellFormed.{shaped, isBlankWaiter, distinct, queueFormed, agentFormed, isBlankAgent, slotFormed, messageFormed, packetFormed, isBlankPacket, wireFormed, lockFormed}
+use Rattle.model.specs.WellFormed.{shaped, isBlankWaiter, distinct, queueFormed, agentFormed, isBlankAgent, slotFormed, messageFormed, packetFormed}
+use Rattle.model.specs.WellFormed.{isBlankPacket, wireFormed, lockFormed}
 
 -- Document 01's numbers, and the one that README gives. Everything else goes by their names.
 pub sizes-are : (locks ≡ 8) × (machines ≡ 4) × (tasks ≡ 4) × (clients ≡ 16) × (queueCapacity ≡ 16) × (wireCapacity ≡ 33) × (allowance ≡ 16384) × (provedBound ≡ 11384)

@@ -1,8 +1,14 @@
 -- Every acquire of a client that is idle and named by no packet, and every release of one that holds, can be placed and keeps the
 -- invariant.
-use Rattle.theorems.specs.Names.{MachineId, ClientId, Mode, Exclusive, Shared, Owner, Unowned, Owned, Agent, AgentSlot, ToDecider, Message, Free, Acquire, Grant, Release, Packet, Idle, Waiting, Holding, LockState, _≡_, refl, ap, Bool, true, false, List, [], _∷_, _++_, ℕ, _+_, _≤_, _<_, arith, ℕ-discrete, length, getD, set, eq-eqb, ne-eqb, lt-ltb, pick, any, machineOf, someAgent, agentOn, listed, plain, waiters, noAgent, packets, Verdict, cannot-place, does, Site, siteOf, withSlot, withStatus, joining, queuing, noRoom, withRoom, mayJoin, lists, clientAsks, clientAcquires, leaves, clientReleases, messageNames, names, or-left, or-right, waiters-of, sym, _∙_, true≢false, machines, clients, both}
+use Rattle.theorems.specs.Names.{MachineId, ClientId, Mode, Exclusive, Shared, Owner, Unowned, Owned, Agent, AgentSlot, ToDecider, Message, Free, Acquire}
+use Rattle.theorems.specs.Names.{Grant, Release, Packet, Idle, Waiting, Holding, LockState, _≡_, refl, ap, Bool, true, false, List, [], _∷_, _++_, ℕ, _+_}
+use Rattle.theorems.specs.Names.{_≤_, _<_, arith, ℕ-discrete, length, getD, set, eq-eqb, ne-eqb, lt-ltb, pick, any, machineOf, someAgent, agentOn, listed}
+use Rattle.theorems.specs.Names.{plain, waiters, noAgent, packets, Verdict, cannot-place, does, Site, siteOf, withSlot, withStatus, joining, queuing}
+use Rattle.theorems.specs.Names.{noRoom, withRoom, mayJoin, lists, clientAsks, clientAcquires, leaves, clientReleases, messageNames, names, or-left}
+use Rattle.theorems.specs.Names.{or-right, waiters-of, sym, _∙_, true≢false, machines, clients, both}
 use Rattle.theorems.specs.Tally.{flag, tally, tally-append, tally-le}
-use Rattle.theorems.specs.Weights.{statusAt, slotAt, weight, one, hit, hitW, askM, queuedS, waitingP, markM, listedS, listedP, owedM, releaseM, releaseP, agentS, incarnationS, markAll, vacantS, waitF, holdF, idleF, clash, few, fits, misfitP}
+use Rattle.theorems.specs.Weights.{statusAt, slotAt, weight, one, hit, hitW, askM, queuedS, waitingP, markM, listedS, listedP, owedM, releaseM, releaseP}
+use Rattle.theorems.specs.Weights.{agentS, incarnationS, markAll, vacantS, waitF, holdF, idleF, clash, few, fits, misfitP}
 use Rattle.theorems.specs.Invariant.{Inv}
 use Rattle.theorems.specs.InvariantStep.{Keeps, Split, keep, vacancy-by, framed}
 use Rattle.theorems.specs.Facts.{list-on, Home, home-fits, slot-home, status-move, in-slot, clash-none, namesM, hits, owes-list, joins-fits, joins-heads}

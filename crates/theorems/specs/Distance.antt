@@ -1,7 +1,10 @@
 -- How far a lock's packets are from a step that lowers the work. Hops: the deliveries of a packet before the one that takes it; 3 where
 -- it is not known to be taken. A packet at index i with h hops is at the distance i + wireCapacity · h.
 use Prim.Native.Nat.{min}
-use Rattle.theorems.specs.Names.{MachineId, ClientId, Mode, Owner, Unowned, Owned, Agent, AgentSlot, Address, ToDecider, ToMachine, Message, Free, Acquire, Grant, Release, Packet, LockState, _≡_, refl, ap, Bool, true, false, not, and-false, false≢true, List, [], _∷_, _++_, ℕ, suc, _+_, _*_, _≤_, _<_, arith, length, getD, set, eqb, leb, ltb, eqb-true, ltb-true, leb-true, leb-false, le-leb, pick, someAgent, noAgent, packets, lists, bool-cases, _-_, machines, wireCapacity}
+use Rattle.theorems.specs.Names.{MachineId, ClientId, Mode, Owner, Unowned, Owned, Agent, AgentSlot, Address, ToDecider, ToMachine, Message, Free}
+use Rattle.theorems.specs.Names.{Acquire, Grant, Release, Packet, LockState, _≡_, refl, ap, Bool, true, false, not, and-false, false≢true, List, [], _∷_}
+use Rattle.theorems.specs.Names.{_++_, ℕ, suc, _+_, _*_, _≤_, _<_, arith, length, getD, set, eqb, leb, ltb, eqb-true, ltb-true, leb-true, leb-false}
+use Rattle.theorems.specs.Names.{le-leb, pick, someAgent, noAgent, packets, lists, bool-cases, _-_, machines, wireCapacity}
 use Rattle.theorems.specs.Tally.{flag, tally, tally-set, tally-at, tally-le, tally-le-at, tally-none, tally-add, tally-zero}
 use Rattle.theorems.specs.Weights.{slotAt, weight, markM, listedS, owedM, owedP, agentS, agentP, ownedF, farM, ownedAt, misfitS, fits, misfitP}
 use Rattle.theorems.specs.Invariant.{Inv}

@@ -1,7 +1,10 @@
 -- At most one client holds an exclusive lock.
-use Rattle.theorems.specs.Names.{MachineId, Mode, Exclusive, Shared, Owner, Unowned, Owned, Agent, Address, ToDecider, ToMachine, Message, Free, Acquire, Grant, Release, Packet, Holding, LockState, _≡_, refl, ap, Bool, true, false, not, List, [], _∷_, ℕ, zero, suc, _+_, _≤_, arith, getD, eqb, ltb, leb-true, noAgent, packets, and-left, and-right, clients, machineOf}
+use Rattle.theorems.specs.Names.{MachineId, Mode, Exclusive, Shared, Owner, Unowned, Owned, Agent, Address, ToDecider, ToMachine, Message, Free, Acquire}
+use Rattle.theorems.specs.Names.{Grant, Release, Packet, Holding, LockState, _≡_, refl, ap, Bool, true, false, not, List, [], _∷_, ℕ, zero, suc, _+_, _≤_}
+use Rattle.theorems.specs.Names.{arith, getD, eqb, ltb, leb-true, noAgent, packets, and-left, and-right, clients, machineOf}
 use Rattle.theorems.specs.Tally.{flag, gate, tally, tally-le-at, tally-none, tally-add}
-use Rattle.theorems.specs.Weights.{statusAt, slotAt, weight, sameMode, markM, listedS, listedP, agentS, heads, holdF, clash, ownedMode, ownedAt, few, misfitS, fitsAway, fitsFree, fits, misfitP}
+use Rattle.theorems.specs.Weights.{statusAt, slotAt, weight, sameMode, markM, listedS, listedP, agentS, heads, holdF, clash, ownedMode, ownedAt, few}
+use Rattle.theorems.specs.Weights.{misfitS, fitsAway, fitsFree, fits, misfitP}
 use Rattle.theorems.specs.Invariant.{Inv}
 use Rattle.theorems.specs.Facts.{fit, nobody, away-of, Home, home-of, owned-one}
 use Rattle.theorems.specs.Sent.{no-marked}

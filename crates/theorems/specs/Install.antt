@@ -1,10 +1,17 @@
 -- A GRANT with its agent comes to its client's machine: the agent is installed, and with a shared one the shared waiters join.
-use Rattle.theorems.specs.Names.{MachineId, ClientId, Mode, Shared, Owner, Waiter, Agent, AgentSlot, ToMachine, Grant, Packet, Waiting, Holding, LockState, _≡_, refl, _∙_, Bool, true, false, _&&_, List, [], _∷_, map, ℕ, _+_, _≤_, _<_, arith, length, getD, set, length-set, List·getD-eq-default, eqb, ltb, eq-eqb, ne-eqb, ltb-true, ltb-false, someAgent, waiters, noAgent, siteOf, grantOf, installed, admitted, staying, joined, installs, and-left, and-right, waiters-of, not, machines, clients, machineOf, inParts, length-joined}
+use Rattle.theorems.specs.Names.{MachineId, ClientId, Mode, Shared, Owner, Waiter, Agent, AgentSlot, ToMachine, Grant, Packet, Waiting, Holding}
+use Rattle.theorems.specs.Names.{LockState, _≡_, refl, _∙_, Bool, true, false, _&&_, List, [], _∷_, map, ℕ, _+_, _≤_, _<_, arith, length, getD, set}
+use Rattle.theorems.specs.Names.{length-set, List·getD-eq-default, eqb, ltb, eq-eqb, ne-eqb, ltb-true, ltb-false, someAgent, waiters, noAgent, siteOf}
+use Rattle.theorems.specs.Names.{grantOf, installed, admitted, staying, joined, installs, and-left, and-right, waiters-of, not, machines, clients}
+use Rattle.theorems.specs.Names.{machineOf, inParts, length-joined}
 use Rattle.theorems.specs.Tally.{flag, tally}
-use Rattle.theorems.specs.Weights.{statusAt, slotAt, weight, one, hit, oneW, hitW, askM, queuedS, waitingP, markM, listedS, listedP, owedM, owedP, releaseM, releaseP, agentS, agentP, incarnationS, incarnationP, markAll, markP, rejectedP, heads, vacantS, waitF, holdF, idleF, clash, farP, ownedMode, ownedAt, few, misfitS, fitsAway, fits, misfitP}
+use Rattle.theorems.specs.Weights.{statusAt, slotAt, weight, one, hit, oneW, hitW, askM, queuedS, waitingP, markM, listedS, listedP, owedM, owedP}
+use Rattle.theorems.specs.Weights.{releaseM, releaseP, agentS, agentP, incarnationS, incarnationP, markAll, markP, rejectedP, heads, vacantS, waitF}
+use Rattle.theorems.specs.Weights.{holdF, idleF, clash, farP, ownedMode, ownedAt, few, misfitS, fitsAway, fits, misfitP}
 use Rattle.theorems.specs.Invariant.{Inv}
 use Rattle.theorems.specs.InvariantStep.{Split, keep, vacancy-by, framed}
-use Rattle.theorems.specs.Facts.{fit, Zero, absent, list-on, nobody, came-fits, Away, away-of, home-fits, status-move, far-idle, waits-one, clash-none, grant-waits}
+use Rattle.theorems.specs.Facts.{fit, Zero, absent, list-on, nobody, came-fits, Away, away-of, home-fits, status-move, far-idle, waits-one, clash-none}
+use Rattle.theorems.specs.Facts.{grant-waits}
 use Rattle.theorems.specs.Sent.{Good}
 use Rattle.theorems.specs.Waiters.{parted, grants-count, grants-none, join-count, admitted-below, single-of, grants-fit, few-joined, none-far}
 

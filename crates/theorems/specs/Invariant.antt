@@ -1,7 +1,8 @@
 -- The invariant of one lock's state.
 use Rattle.theorems.specs.Names.{_≡_, ℕ, _+_, _≤_, _%_, length, Mode, LockState, packets, machines, clients}
 use Rattle.theorems.specs.Tally.{tally}
-use Rattle.theorems.specs.Weights.{statusAt, slotAt, weight, waitingP, queuedS, listedP, listedS, owedP, releaseP, agentP, agentS, incarnationP, incarnationS, markP, rejectedP, vacantS, waitF, holdF, idleF, ownedF, clash, farF, farP, misfitP, misfitS}
+use Rattle.theorems.specs.Weights.{statusAt, slotAt, weight, waitingP, queuedS, listedP, listedS, owedP, releaseP, agentP, agentS, incarnationP}
+use Rattle.theorems.specs.Weights.{incarnationS, markP, rejectedP, vacantS, waitF, holdF, idleF, ownedF, clash, farF, farP, misfitP, misfitS}
 
 pub record Inv (r : LockState) : Type 0 where
   pub all-machines : length (r .agents) ≡ machines

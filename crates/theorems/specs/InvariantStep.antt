@@ -1,8 +1,11 @@
 -- How any weight changes under a step, and what a step has to show so that the invariant is kept. A step is about machine k, whose slot was old,
 -- and client c; v is the site after it; the packets gone leave the wire, qs are sent, rest stays.
-use Rattle.theorems.specs.Names.{MachineId, ClientId, Mode, AgentSlot, Packet, Status, LockState, _≡_, refl, ap, _∙_, List, [], _∷_, _++_, ℕ, _+_, _-_, _≤_, _<_, _%_, arith, ℕ-discrete, length, getD, set, length-set, set-getD, getD-set-same, getD-set-other, removed, idle, noAgent, blankPacket, packets, Site, siteOf, apply, wireOf, packets-of, machines, sym, withSlot}
+use Rattle.theorems.specs.Names.{MachineId, ClientId, Mode, AgentSlot, Packet, Status, LockState, _≡_, refl, ap, _∙_, List, [], _∷_, _++_, ℕ, _+_, _-_}
+use Rattle.theorems.specs.Names.{_≤_, _<_, _%_, arith, ℕ-discrete, length, getD, set, length-set, set-getD, getD-set-same, getD-set-other, removed, idle}
+use Rattle.theorems.specs.Names.{noAgent, blankPacket, packets, Site, siteOf, apply, wireOf, packets-of, machines, sym, withSlot}
 use Rattle.theorems.specs.Tally.{tally, tally-one, tally-append, tally-removed, tally-set, tally-at}
-use Rattle.theorems.specs.Weights.{statusAt, slotAt, weight, queuedS, waitingP, listedS, listedP, owedP, releaseP, agentS, agentP, incarnationS, incarnationP, markP, rejectedP, vacantS, waitF, holdF, idleF, ownedF, clash, farP, farF, misfitS, misfitP}
+use Rattle.theorems.specs.Weights.{statusAt, slotAt, weight, queuedS, waitingP, listedS, listedP, owedP, releaseP, agentS, agentP, incarnationS}
+use Rattle.theorems.specs.Weights.{incarnationP, markP, rejectedP, vacantS, waitF, holdF, idleF, ownedF, clash, farP, farF, misfitS, misfitP}
 use Rattle.theorems.specs.Invariant.{Inv}
 
 pub packets-after : (f : Packet → ℕ) (rest qs : List Packet) → tally f (packets (wireOf (rest ++ qs))) ≡ tally f rest + tally f qs

@@ -1,8 +1,13 @@
 -- A holder is removed from the agent's list, and the agent leaves if it is empty: by the client's release on the agent's machine, and
 -- by a RELEASE that is delivered there.
-use Rattle.theorems.specs.Names.{MachineId, ClientId, Mode, Waiter, Agent, AgentSlot, Free, Grant, Packet, Status, LockState, _≡_, refl, _∙_, Bool, true, false, true≢false, false≢true, List, [], _∷_, ℕ, _+_, _≤_, _<_, arith, length, getD, length-set, ne-eqb, lt-ltb, any, someAgent, listed, queueOf, waiters, noAgent, Site, withSlot, changed, anyHolder, without, departing, lists, handOver, staysIf, leaves, waiters-of, machines, clients, siteOf, withStatus}
+use Rattle.theorems.specs.Names.{MachineId, ClientId, Mode, Waiter, Agent, AgentSlot, Free, Grant, Packet, Status, LockState, _≡_, refl, _∙_, Bool, true}
+use Rattle.theorems.specs.Names.{false, true≢false, false≢true, List, [], _∷_, ℕ, _+_, _≤_, _<_, arith, length, getD, length-set, ne-eqb, lt-ltb, any}
+use Rattle.theorems.specs.Names.{someAgent, listed, queueOf, waiters, noAgent, Site, withSlot, changed, anyHolder, without, departing, lists, handOver}
+use Rattle.theorems.specs.Names.{staysIf, leaves, waiters-of, machines, clients, siteOf, withStatus}
 use Rattle.theorems.specs.Tally.{flag, tally, tally-set}
-use Rattle.theorems.specs.Weights.{statusAt, slotAt, weight, one, hit, askM, queuedS, waitingP, markM, listedS, listedP, owedM, owedP, releaseM, releaseP, agentS, agentP, incarnationS, incarnationP, markAll, markP, rejectedP, heads, vacantS, waitF, holdF, idleF, clash, farP, few, misfitS, fitsAway, fitsFree, fits, misfitP}
+use Rattle.theorems.specs.Weights.{statusAt, slotAt, weight, one, hit, askM, queuedS, waitingP, markM, listedS, listedP, owedM, owedP, releaseM, releaseP}
+use Rattle.theorems.specs.Weights.{agentS, agentP, incarnationS, incarnationP, markAll, markP, rejectedP, heads, vacantS, waitF, holdF, idleF, clash}
+use Rattle.theorems.specs.Weights.{farP, few, misfitS, fitsAway, fitsFree, fits, misfitP}
 use Rattle.theorems.specs.Invariant.{Inv}
 use Rattle.theorems.specs.InvariantStep.{Keeps, Split, told, keep, vacancy-by, framed}
 use Rattle.theorems.specs.Sent.{Good}

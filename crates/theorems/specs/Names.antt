@@ -1,11 +1,18 @@
 -- One header for all files: the model's declared types and constructors, and the names of the library, the model and its laws.
 pub use Rattle.model.specs.declared.{LockId.LockId, MachineId.MachineId, TaskId.TaskId, ClientId.ClientId}
-pub use Rattle.model.specs.declared.{Mode.Mode, Mode.the-variants.{Exclusive, Shared}, Owner.Owner, Owner.the-variants.{Free as Unowned, Owned}, Decider.Decider}
+pub use Rattle.model.specs.declared.{Mode.Mode, Mode.the-variants.{Exclusive, Shared}, Owner.Owner, Owner.the-variants.{Free as Unowned, Owned}}
+pub use Rattle.model.specs.declared.{Decider.Decider}
 pub use Rattle.model.specs.declared.{Waiter.Waiter, Queue.Queue, Agent.Agent, AgentSlot.AgentSlot}
-pub use Rattle.model.specs.declared.{Address.Address, Address.the-variants.{Decider as ToDecider, Machine as ToMachine}, Message.Message, Message.the-variants.{Free, Acquire, Grant, Release}, Packet.Packet, Wire.Wire}
-pub use Rattle.model.specs.declared.{Status.Status, Status.the-variants.{Idle, Waiting, Holding}, ClientState.ClientState, Site.Site, LockState.LockState, Cluster.Cluster}
-pub use Rattle.model.specs.declared.{Call.Call, Call.the-variants.{Acquire as AcquireCall, Release as ReleaseCall, Deliver as DeliverCall}, Reading.Reading, Reading.the-variants.{Record, Bad, End}}
-pub use Rattle.model.specs.declared.{Refusal.Refusal, Refusal.the-variants.{Malformed, LockRange, MachineRange, TaskRange, ModeRange, NotIdle, StillNamed, NotHolding, IndexRange, CannotPlace, WireFull, BadRecord, TranscriptLength, NotQuiescent}, Answer.Answer, Answer.the-variants.{Accepted, Refused}}
+pub use Rattle.model.specs.declared.{Address.Address, Address.the-variants.{Decider as ToDecider, Machine as ToMachine}, Message.Message}
+pub use Rattle.model.specs.declared.{Message.the-variants.{Free, Acquire, Grant, Release}, Packet.Packet, Wire.Wire}
+pub use Rattle.model.specs.declared.{Status.Status, Status.the-variants.{Idle, Waiting, Holding}, ClientState.ClientState, Site.Site, LockState.LockState}
+pub use Rattle.model.specs.declared.{Cluster.Cluster}
+pub use Rattle.model.specs.declared.{Call.Call, Call.the-variants.{Acquire as AcquireCall, Release as ReleaseCall, Deliver as DeliverCall}, Reading.Reading}
+pub use Rattle.model.specs.declared.{Reading.the-variants.{Record, Bad, End}}
+pub use Rattle.model.specs.declared.{Refusal.Refusal}
+pub use Rattle.model.specs.declared.{Refusal.the-variants.{Malformed, LockRange, MachineRange, TaskRange, ModeRange, NotIdle, StillNamed, NotHolding}}
+pub use Rattle.model.specs.declared.{Refusal.the-variants.{IndexRange, CannotPlace, WireFull, BadRecord, TranscriptLength, NotQuiescent}, Answer.Answer}
+pub use Rattle.model.specs.declared.{Answer.the-variants.{Accepted, Refused}}
 pub use Rattle.model.specs.declared.{Stepped.Stepped, Outcome.Outcome, Drained.Drained, Replayed.Replayed}
 -- ---- the library
 pub use mathlib.Core.Path.{_≡_, refl, sym, ap, _∙_}
@@ -21,7 +28,8 @@ pub use borrow.Author.Tests.{eqb-true, eqb-false, eq-eqb, ne-eqb, ltb-true, ltb-
 -- ---- the model and its laws
 pub use Rattle.model.specs.Lists.{pick, any, all}
 unfoldable pub use Rattle.model.specs.Lists.{removed}
-pub use Rattle.model.specs.States.{locks, machines, tasks, clients, queueCapacity, wireCapacity, clientOf, machineOf, modeOf, isShared, noHolders, newAgent, someAgent, agentOn, listed, idle, statusOf, plain, carrying, resent, unowned, lockIn}
+pub use Rattle.model.specs.States.{locks, machines, tasks, clients, queueCapacity, wireCapacity, clientOf, machineOf, modeOf, isShared, noHolders, newAgent}
+pub use Rattle.model.specs.States.{someAgent, agentOn, listed, idle, statusOf, plain, carrying, resent, unowned, lockIn}
 unfoldable pub use Rattle.model.specs.States.{queueOf, waiters, noAgent, blankPacket, wireOf, packets, freshLock, fresh}
 pub use Rattle.model.specs.WellFormed.{isClient, isFree}
 unfoldable pub use Rattle.model.specs.WellFormed.{lockFormed, wellFormed}
@@ -32,11 +40,13 @@ unfoldable pub use Rattle.model.specs.Asking.{mayJoin, clientAsks, clientAcquir
 pub use Rattle.model.specs.AtDecider.{next, sentOn, ownedShared, grantsWith, grantsFirst, shares, current, rejectedTo, rejects, passesOn}
 unfoldable pub use Rattle.model.specs.AtDecider.{mayShare, toOwner, decidesAcquire, decidesFree, decidesGrant, decides, atDecider}
 pub use Rattle.model.specs.AtMachine.{sentBack, sendsBack, grantOf, installed, requeued}
-unfoldable pub use Rattle.model.specs.AtMachine.{admitted, staying, joined, installs, grantArrives, rejectedGrantArrives, marked, unmarked, acquireArrives, releaseArrives, freeArrives, arrives, atMachine}
+unfoldable pub use Rattle.model.specs.AtMachine.{admitted, staying, joined, installs, grantArrives, rejectedGrantArrives, marked, unmarked, acquireArrives}
+unfoldable pub use Rattle.model.specs.AtMachine.{releaseArrives, freeArrives, arrives, atMachine}
 pub use Rattle.model.specs.Calls.{refusing, isIdle, isHolding, messageNames, names, machineAt, clientNamed, packetAt, answersOf, after}
 unfoldable pub use Rattle.model.specs.Calls.{delivers, acquireStep, releaseStep, takes, deliverStep, settled, unless, acquire, release, deliver, perform, run}
 pub use Rattle.model.specs.Refusals.{refusalNumber, number}
-pub use Rattle.model.specs.Trace.{View, unseen, sameLock, sameClient, isAccepted, listedHome, joinsNow, toMachine, isGrantFor, showsGrant, afterAcquire, afterGrantIn, afterGrant, afterRelease, phaseAfter}
+pub use Rattle.model.specs.Trace.{View, unseen, sameLock, sameClient, isAccepted, listedHome, joinsNow, toMachine, isGrantFor, showsGrant, afterAcquire}
+pub use Rattle.model.specs.Trace.{afterGrantIn, afterGrant, afterRelease, phaseAfter}
 unfoldable pub use Rattle.model.specs.Trace.{sees, watch}
 pub use Rattle.laws.specs.Tests.{and-left, and-right, both, or-left, or-right, bool-cases, pick-yes, pick-no}
 pub use Rattle.laws.specs.Shapes.{packets-of, waiters-of}

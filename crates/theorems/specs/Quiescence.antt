@@ -2,9 +2,12 @@
 use Rattle.laws.specs.Formed.{parts, agent-blank, wire-canonical}
 use Rattle.laws.specs.Shapes.{wire-whole}
 use Rattle.model.specs.WellFormed.{slotFormed}
-use Rattle.theorems.specs.Names.{Mode, Exclusive, Shared, Owner, Unowned, Owned, AgentSlot, Packet, Status, Idle, Waiting, Holding, ClientState, LockState, _≡_, refl, Bool, true, false, List, [], _∷_, ℕ, suc, _+_, arith, length, getD, replicate, eq-eqb, all, idle, noAgent, wireOf, packets, freshLock, lockFormed, and-left, and-right, bool-cases, machines, clients}
+use Rattle.theorems.specs.Names.{Mode, Exclusive, Shared, Owner, Unowned, Owned, AgentSlot, Packet, Status, Idle, Waiting, Holding, ClientState}
+use Rattle.theorems.specs.Names.{LockState, _≡_, refl, Bool, true, false, List, [], _∷_, ℕ, suc, _+_, arith, length, getD, replicate, eq-eqb, all, idle}
+use Rattle.theorems.specs.Names.{noAgent, wireOf, packets, freshLock, lockFormed, and-left, and-right, bool-cases, machines, clients}
 use Rattle.theorems.specs.Tally.{flag, tally, tally-none}
-use Rattle.theorems.specs.Weights.{statusAt, weight, queuedS, waitingP, listedS, listedP, owedP, agentS, agentP, markP, rejectedP, heads, vacantS, waitF, holdF, ownedF}
+use Rattle.theorems.specs.Weights.{statusAt, weight, queuedS, waitingP, listedS, listedP, owedP, agentS, agentP, markP, rejectedP, heads, vacantS, waitF}
+use Rattle.theorems.specs.Weights.{holdF, ownedF}
 use Rattle.theorems.specs.Invariant.{Inv}
 use Rattle.theorems.specs.Facts.{absent, nobody, absent-of, free-inc}
 

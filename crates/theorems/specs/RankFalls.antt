@@ -1,6 +1,16 @@
 -- Each step of a drain lowers the rank: the delivery of the first packet lowers the work, or sends the packet on with fewer hops; a release lowers
 -- the work. Every rule is looked at in its own clauses; the invariant is not needed for that.
-use Rattle.theorems.specs.Names.{MachineId, ClientId, Mode, Shared, Owner, Unowned, Owned, Waiter, Agent, AgentSlot, Address, ToDecider, ToMachine, Message, Free, Acquire, Grant, Release, Packet, Idle, Holding, LockState, _≡_, refl, ap, _∙_, Bool, true, false, true≢false, false≢true, List, [], _∷_, _++_, map, ℕ, _+_, _*_, _≤_, _<_, arith, length, getD, set, length-append, List·getD-eq-default, set-getD, ltb, eqb-true, eq-eqb, ltb-true, ltb-false, pick, removed, machineOf, isShared, newAgent, someAgent, agentOn, listed, statusOf, plain, waiters, noAgent, packets, Site, siteOf, withSlot, withStatus, cannot-place, does, apply, queuing, noRoom, withRoom, mayJoin, anyHolder, without, lists, handOver, staysIf, leaves, clientReleases, current, toOwner, decidesAcquire, decidesFree, decidesGrant, decides, atDecider, sendsBack, grantOf, installed, requeued, admitted, staying, joined, installs, grantArrives, rejectedGrantArrives, marked, unmarked, acquireArrives, releaseArrives, freeArrives, arrives, atMachine, machineAt, clientNamed, delivers, releaseStep, takes, deliverStep, and-left, and-right, bool-cases, packets-of, waiters-of, clients, idle, mayShare, slotIn, inParts, passesOn, unowned, withDecider, rejects, shares, resent}
+use Rattle.theorems.specs.Names.{MachineId, ClientId, Mode, Shared, Owner, Unowned, Owned, Waiter, Agent, AgentSlot, Address, ToDecider, ToMachine}
+use Rattle.theorems.specs.Names.{Message, Free, Acquire, Grant, Release, Packet, Idle, Holding, LockState, _≡_, refl, ap, _∙_, Bool, true, false}
+use Rattle.theorems.specs.Names.{true≢false, false≢true, List, [], _∷_, _++_, map, ℕ, _+_, _*_, _≤_, _<_, arith, length, getD, set, length-append}
+use Rattle.theorems.specs.Names.{List·getD-eq-default, set-getD, ltb, eqb-true, eq-eqb, ltb-true, ltb-false, pick, removed, machineOf, isShared, newAgent}
+use Rattle.theorems.specs.Names.{someAgent, agentOn, listed, statusOf, plain, waiters, noAgent, packets, Site, siteOf, withSlot, withStatus, cannot-place}
+use Rattle.theorems.specs.Names.{does, apply, queuing, noRoom, withRoom, mayJoin, anyHolder, without, lists, handOver, staysIf, leaves, clientReleases}
+use Rattle.theorems.specs.Names.{current, toOwner, decidesAcquire, decidesFree, decidesGrant, decides, atDecider, sendsBack, grantOf, installed, requeued}
+use Rattle.theorems.specs.Names.{admitted, staying, joined, installs, grantArrives, rejectedGrantArrives, marked, unmarked, acquireArrives}
+use Rattle.theorems.specs.Names.{releaseArrives, freeArrives, arrives, atMachine, machineAt, clientNamed, delivers, releaseStep, takes, deliverStep}
+use Rattle.theorems.specs.Names.{and-left, and-right, bool-cases, packets-of, waiters-of, clients, idle, mayShare, slotIn, inParts, passesOn, unowned}
+use Rattle.theorems.specs.Names.{withDecider, rejects, shares, resent}
 use Rattle.theorems.specs.Tally.{flag, tally, tally-one, tally-set, tally-length}
 use Rattle.theorems.specs.Weights.{statusAt, slotAt, heads, holdF, ownedAt}
 use Rattle.theorems.specs.Invariant.{Inv}

@@ -5,7 +5,8 @@ use mathlib.Core.Bool.{not, true≢false}
 use mathlib.Core.List.{List, [], _∷_}
 use Prim.Native.Nat.{ℕ, zero, suc}
 use native.Mathlib.Omega.{arith}
-use Rattle.theorems.specs.Names.{LockId, MachineId, Mode, Shared, Owned, AgentSlot, Cluster, Call, AcquireCall, DeliverCall, LockRange, Refusal, Answer, Accepted, Refused, Outcome, Malformed, LockState, Drained, true, false, locks, done}
+use Rattle.theorems.specs.Names.{LockId, MachineId, Mode, Shared, Owned, AgentSlot, Cluster, Call, AcquireCall, DeliverCall, LockRange, Refusal, Answer}
+use Rattle.theorems.specs.Names.{Accepted, Refused, Outcome, Malformed, LockState, Drained, true, false, locks, done}
 use lib.ListN.{length, getD}
 use lib.Dec.{leb}
 use Rattle.model.specs.States.{noAgent, wireOf, lockIn, freshLock}

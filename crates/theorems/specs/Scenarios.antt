@@ -6,13 +6,18 @@ use mathlib.Core.List.{List, [], _∷_}
 use Prim.Native.Nat.{ℕ}
 use lib.ListN.{set, replicate}
 use Rattle.model.specs.Lists.{padded, removed}
-use Rattle.theorems.specs.Names.{LockId, MachineId, ClientId, Mode, Exclusive, Shared, Owned, Decider, Waiter, Agent, AgentSlot, ToDecider, ToMachine, Message, Free, Acquire, Grant, Release, Packet, Status, Waiting, Holding, ClientState, LockState, Cluster, Call, AcquireCall, ReleaseCall, DeliverCall, LockRange, StillNamed, Answer, Accepted, Refused, locks, machines, clients, carrying, resent, mayJoin, mayShare}
+use Rattle.theorems.specs.Names.{LockId, MachineId, ClientId, Mode, Exclusive, Shared, Owned, Decider, Waiter, Agent, AgentSlot, ToDecider, ToMachine}
+use Rattle.theorems.specs.Names.{Message, Free, Acquire, Grant, Release, Packet, Status, Waiting, Holding, ClientState, LockState, Cluster, Call}
+use Rattle.theorems.specs.Names.{AcquireCall, ReleaseCall, DeliverCall, LockRange, StillNamed, Answer, Accepted, Refused, locks, machines, clients}
+use Rattle.theorems.specs.Names.{carrying, resent, mayJoin, mayShare}
 use Rattle.model.specs.States.{queueOf, waiters, noHolders, newAgent, someAgent, noAgent, idle, plain, blankPacket, wireOf, packets, freshLock}
-use Rattle.model.specs.WellFormed.{shaped, isBlankWaiter, distinct, queueFormed, agentFormed, isBlankAgent, slotFormed, messageFormed, packetFormed, isBlankPacket, wireFormed, lockFormed, wellFormed}
+use Rattle.model.specs.WellFormed.{shaped, isBlankWaiter, distinct, queueFormed, agentFormed, isBlankAgent, slotFormed, messageFormed, packetFormed}
+use Rattle.model.specs.WellFormed.{isBlankPacket, wireFormed, lockFormed, wellFormed}
 use Rattle.model.specs.Changes.{finish}
 use Rattle.model.specs.Asking.{clientAsks, clientAcquires, handOver, staysIf, clientReleases}
 use Rattle.model.specs.AtDecider.{toOwner, decidesAcquire, decidesFree, decidesGrant, decides, atDecider}
-use Rattle.model.specs.AtMachine.{admitted, staying, joined, installs, grantArrives, rejectedGrantArrives, marked, unmarked, acquireArrives, releaseArrives, freeArrives, arrives, atMachine}
+use Rattle.model.specs.AtMachine.{admitted, staying, joined, installs, grantArrives, rejectedGrantArrives, marked, unmarked, acquireArrives, releaseArrives}
+use Rattle.model.specs.AtMachine.{freeArrives, arrives, atMachine}
 use Rattle.model.specs.Refusals.{first}
 use Rattle.model.specs.Calls.{delivers, acquireStep, releaseStep, takes, deliverStep, settled, unless, acquire, release, deliver, perform, run, answersOf}
 

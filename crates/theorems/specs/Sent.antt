@@ -1,5 +1,7 @@
 -- What a step must come to, packets sent on, packets that never are on the wire, and what a yes of the rules' two tests says.
-use Rattle.theorems.specs.Names.{_≡_, refl, MachineId, ClientId, Mode, Exclusive, Shared, Owner, Unowned, Agent, Address, ToDecider, ToMachine, Message, Free, Acquire, Grant, Release, Packet, Site, LockState, Bool, true, false, and-false, false≢true, List, arith, pick, machines, isShared, Verdict, cannot-place, does, mayJoin, ownedShared, mayShare, and-left, and-right, [], _∷_, _<_}
+use Rattle.theorems.specs.Names.{_≡_, refl, MachineId, ClientId, Mode, Exclusive, Shared, Owner, Unowned, Agent, Address, ToDecider, ToMachine, Message}
+use Rattle.theorems.specs.Names.{Free, Acquire, Grant, Release, Packet, Site, LockState, Bool, true, false, and-false, false≢true, List, arith, pick}
+use Rattle.theorems.specs.Names.{machines, isShared, Verdict, cannot-place, does, mayJoin, ownedShared, mayShare, and-left, and-right, [], _∷_, _<_}
 use Rattle.theorems.specs.Weights.{farP, fits, fitsP, misfitP}
 use Rattle.theorems.specs.Invariant.{Inv}
 use Rattle.theorems.specs.InvariantStep.{Keeps, Split, same-mark, Still, keep-resent}

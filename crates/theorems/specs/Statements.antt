@@ -3,7 +3,9 @@
 use Rattle.laws.specs.CallSteps.{lockOf}
 use Rattle.model.specs.Drain.{allowance, Quiescent, drainCalls, drain}
 use Rattle.model.specs.Trace.{isAccepted, grantsIn}
-use Rattle.theorems.specs.Names.{LockId, ClientId, Mode, Exclusive, Status, Waiting, Holding, Cluster, Call, Answer, Accepted, _≡_, true, List, ℕ, _≤_, _<_, length, eqb, leb, all, statusOf, lockIn, packets, freshLock, fresh, wellFormed, current, packetAt, run, answersOf, after, perform, number, phaseAfter, _+_, _-_, _*_, locks, clients, wireCapacity}
+use Rattle.theorems.specs.Names.{LockId, ClientId, Mode, Exclusive, Status, Waiting, Holding, Cluster, Call, Answer, Accepted, _≡_, true, List, ℕ, _≤_}
+use Rattle.theorems.specs.Names.{_<_, length, eqb, leb, all, statusOf, lockIn, packets, freshLock, fresh, wellFormed, current, packetAt, run, answersOf}
+use Rattle.theorems.specs.Names.{after, perform, number, phaseAfter, _+_, _-_, _*_, locks, clients, wireCapacity}
 use Rattle.theorems.specs.Tally.{tally}
 use Rattle.theorems.specs.Weights.{markP}
 

@@ -1,5 +1,9 @@
 -- Every step that a call makes is accepted and keeps the invariant: no refusal 9, no refusal 10.
-use Rattle.theorems.specs.Names.{MachineId, ClientId, Mode, Address, ToDecider, ToMachine, Packet, Idle, Holding, LockState, Accepted, Stepped, _≡_, refl, ap, true, false, List, [], _∷_, _++_, ℕ, _+_, _≤_, _<_, arith, length, length-append, leb, ltb, ltb-true, le-leb, any, removed, agentOn, statusOf, blankPacket, packets, Site, siteOf, Verdict, cannot-place, does, apply, finish, atDecider, atMachine, names, machineAt, clientNamed, packetAt, delivers, acquireStep, releaseStep, takes, deliverStep, packets-of, machines, clients, wireCapacity, Bool, pick, resent}
+use Rattle.theorems.specs.Names.{MachineId, ClientId, Mode, Address, ToDecider, ToMachine, Packet, Idle, Holding, LockState, Accepted, Stepped, _≡_, refl}
+use Rattle.theorems.specs.Names.{ap, true, false, List, [], _∷_, _++_, ℕ, _+_, _≤_, _<_, arith, length, length-append, leb, ltb, ltb-true, le-leb, any}
+use Rattle.theorems.specs.Names.{removed, agentOn, statusOf, blankPacket, packets, Site, siteOf, Verdict, cannot-place, does, apply, finish, atDecider}
+use Rattle.theorems.specs.Names.{atMachine, names, machineAt, clientNamed, packetAt, delivers, acquireStep, releaseStep, takes, deliverStep, packets-of}
+use Rattle.theorems.specs.Names.{machines, clients, wireCapacity, Bool, pick, resent}
 use Rattle.theorems.specs.Tally.{tally-at}
 use Rattle.theorems.specs.Weights.{farM, farA, farP}
 use Rattle.theorems.specs.Invariant.{Inv}

@@ -1,5 +1,6 @@
 -- Sums over lists, and sums over the numbers below a bound.
-use Rattle.theorems.specs.Names.{_≡_, refl, sym, Bool, true, false, List, [], _∷_, _++_, map, ℕ, zero, suc, _+_, _*_, _≤_, _<_, arith, ℕ-discrete, length, getD, set, eqb, eq-eqb, ne-eqb, removed}
+use Rattle.theorems.specs.Names.{_≡_, refl, sym, Bool, true, false, List, [], _∷_, _++_, map, ℕ, zero, suc, _+_, _*_, _≤_, _<_, arith, ℕ-discrete, length}
+use Rattle.theorems.specs.Names.{getD, set, eqb, eq-eqb, ne-eqb, removed}
 
 abbrev pub flag : Bool → ℕ
 flag true = 1

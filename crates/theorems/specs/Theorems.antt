@@ -1,6 +1,8 @@
 -- The proofs of the statements, for every list of calls.
 use Rattle.laws.specs.CallSteps.{perform-elsewhere}
-use Rattle.theorems.specs.Names.{Packet, LockState, Cluster, Call, Answer, _≡_, refl, sym, ap, _∙_, true, List, [], _∷_, ℕ, _≤_, _<_, arith, length, eqb, leb, eqb-true, eqb-false, eq-eqb, ne-eqb, le-leb, all, removed, statusOf, lockIn, packets, fresh, current, packetAt, answersOf, after, perform, number, unseen, both, bool-cases}
+use Rattle.theorems.specs.Names.{Packet, LockState, Cluster, Call, Answer, _≡_, refl, sym, ap, _∙_, true, List, [], _∷_, ℕ, _≤_, _<_, arith, length, eqb}
+use Rattle.theorems.specs.Names.{leb, eqb-true, eqb-false, eq-eqb, ne-eqb, le-leb, all, removed, statusOf, lockIn, packets, fresh, current, packetAt}
+use Rattle.theorems.specs.Names.{answersOf, after, perform, number, unseen, both, bool-cases}
 use Rattle.theorems.specs.Tally.{tally}
 use Rattle.theorems.specs.Weights.{agentS, agentP, incarnationS, incarnationP, markP, fits, misfitP}
 use Rattle.theorems.specs.Invariant.{Inv}
@@ -10,7 +12,8 @@ use Rattle.theorems.specs.Fresh.{all-idle}
 use Rattle.theorems.specs.Exclusion.{carried-away, one-exclusive}
 use Rattle.theorems.specs.Runs.{Reached, lock-fresh, reached-fresh, reached-next, reached, number-below}
 use Rattle.theorems.specs.Traced.{agrees}
-use Rattle.theorems.specs.Statements.{StaysFormed, NeverRefusedInside, WireBounded, OthersUntouched, Exclusion, TraceAgrees, ExclusionOfTrace, IncarnationSound}
+use Rattle.theorems.specs.Statements.{StaysFormed, NeverRefusedInside, WireBounded, OthersUntouched, Exclusion, TraceAgrees, ExclusionOfTrace}
+use Rattle.theorems.specs.Statements.{IncarnationSound}
 
 pub stays-formed : (cs : List Call) → StaysFormed cs
 stays-formed cs = reached cs .formed

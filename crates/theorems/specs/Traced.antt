@@ -1,6 +1,16 @@
 -- The statuses are what the trace says: which client's status each step writes, and as what.
 use Rattle.laws.specs.CallSteps.{lockOf, stepOf, Allowed, may-acquire, may-release, may-deliver, perform-elsewhere}
-use Rattle.theorems.specs.Names.{LockId, MachineId, ClientId, Mode, Owner, Unowned, Owned, Agent, AgentSlot, Address, ToDecider, ToMachine, Message, Free, Acquire, Grant, Release, Packet, Status, Idle, Waiting, Holding, ClientState, LockState, Cluster, Call, AcquireCall, ReleaseCall, DeliverCall, WireFull, _≡_, refl, sym, ap, _∙_, Bool, true, false, _&&_, not, and-false, List, [], _∷_, ℕ, _+_, _<_, arith, ℕ-discrete, length, getD, set-getD, getD-set-same, getD-set-other, leb, eq-eqb, ne-eqb, pick, any, removed, clientOf, machineOf, modeOf, isShared, someAgent, agentOn, listed, idle, statusOf, plain, lockIn, noAgent, packets, Verdict, cannot-place, does, Site, siteOf, withSlot, withStatus, apply, accepted, finish, anyHolder, without, staysIf, joining, queuing, noRoom, mayJoin, lists, clientAsks, clientAcquires, clientReleases, current, toOwner, decidesAcquire, decidesFree, decidesGrant, decides, atDecider, installs, grantArrives, rejectedGrantArrives, marked, unmarked, acquireArrives, releaseArrives, freeArrives, arrives, atMachine, names, machineAt, clientNamed, packetAt, delivers, acquireStep, releaseStep, takes, deliverStep, perform, run, View, isAccepted, toMachine, isGrantFor, showsGrant, afterAcquire, afterGrant, sees, watch, bool-cases, clients, wireCapacity, inParts, mayShare}
+use Rattle.theorems.specs.Names.{LockId, MachineId, ClientId, Mode, Owner, Unowned, Owned, Agent, AgentSlot, Address, ToDecider, ToMachine, Message, Free}
+use Rattle.theorems.specs.Names.{Acquire, Grant, Release, Packet, Status, Idle, Waiting, Holding, ClientState, LockState, Cluster, Call, AcquireCall}
+use Rattle.theorems.specs.Names.{ReleaseCall, DeliverCall, WireFull, _≡_, refl, sym, ap, _∙_, Bool, true, false, _&&_, not, and-false, List, [], _∷_, ℕ}
+use Rattle.theorems.specs.Names.{_+_, _<_, arith, ℕ-discrete, length, getD, set-getD, getD-set-same, getD-set-other, leb, eq-eqb, ne-eqb, pick, any}
+use Rattle.theorems.specs.Names.{removed, clientOf, machineOf, modeOf, isShared, someAgent, agentOn, listed, idle, statusOf, plain, lockIn, noAgent}
+use Rattle.theorems.specs.Names.{packets, Verdict, cannot-place, does, Site, siteOf, withSlot, withStatus, apply, accepted, finish, anyHolder, without}
+use Rattle.theorems.specs.Names.{staysIf, joining, queuing, noRoom, mayJoin, lists, clientAsks, clientAcquires, clientReleases, current, toOwner}
+use Rattle.theorems.specs.Names.{decidesAcquire, decidesFree, decidesGrant, decides, atDecider, installs, grantArrives, rejectedGrantArrives, marked}
+use Rattle.theorems.specs.Names.{unmarked, acquireArrives, releaseArrives, freeArrives, arrives, atMachine, names, machineAt, clientNamed, packetAt}
+use Rattle.theorems.specs.Names.{delivers, acquireStep, releaseStep, takes, deliverStep, perform, run, View, isAccepted, toMachine, isGrantFor}
+use Rattle.theorems.specs.Names.{showsGrant, afterAcquire, afterGrant, sees, watch, bool-cases, clients, wireCapacity, inParts, mayShare}
 use Rattle.model.specs.Changes.{refused}
 use Rattle.theorems.specs.Tally.{tally, tally-at}
 use Rattle.theorems.specs.Weights.{statusAt, slotAt, weight, askM, waitingP, listedS}

@@ -1,6 +1,11 @@
 -- The waiters that leave a queue and those that stay, holders that join, and room in a queue.
-use Rattle.theorems.specs.Names.{ClientId, Mode, Exclusive, Shared, Owner, Waiter, ToDecider, Grant, Packet, Idle, LockState, _≡_, refl, sym, _∙_, Bool, true, false, _||_, not, and-true, false≢true, List, [], _∷_, map, ℕ, _+_, _≤_, _<_, arith, ℕ-discrete, length, getD, set, length-set, getD-set-same, getD-set-other, eqb, leb, ltb, eq-eqb, ne-eqb, ltb-true, le-leb, lt-leb, any, isShared, plain, noAgent, isClient, grantOf, admitted, staying, joined, bool-cases, clients, queueCapacity, Parting, done, first-leaves, first-stays, parting, none-leaves}
-use Rattle.theorems.specs.Tally.{flag, tally, tally-set, tally-le, tally-ext, tally-add, tally-zero, tally-length, tally-map, sumTo, sum-swap, sum-le, sum-add, sum-one}
+use Rattle.theorems.specs.Names.{ClientId, Mode, Exclusive, Shared, Owner, Waiter, ToDecider, Grant, Packet, Idle, LockState, _≡_, refl, sym, _∙_, Bool}
+use Rattle.theorems.specs.Names.{true, false, _||_, not, and-true, false≢true, List, [], _∷_, map, ℕ, _+_, _≤_, _<_, arith, ℕ-discrete, length, getD, set}
+use Rattle.theorems.specs.Names.{length-set, getD-set-same, getD-set-other, eqb, leb, ltb, eq-eqb, ne-eqb, ltb-true, le-leb, lt-leb, any, isShared, plain}
+use Rattle.theorems.specs.Names.{noAgent, isClient, grantOf, admitted, staying, joined, bool-cases, clients, queueCapacity, Parting, done, first-leaves}
+use Rattle.theorems.specs.Names.{first-stays, parting, none-leaves}
+use Rattle.theorems.specs.Tally.{flag, tally, tally-set, tally-le, tally-ext, tally-add, tally-zero, tally-length, tally-map, sumTo, sum-swap, sum-le}
+use Rattle.theorems.specs.Tally.{sum-add, sum-one}
 use Rattle.theorems.specs.Weights.{statusAt, one, hit, oneW, hitW, waitF, ownedMode, few, fits, misfitP}
 use Rattle.theorems.specs.Invariant.{Inv}
 use Rattle.theorems.specs.Facts.{far-idle, one-le, farW, far-none, shared-owner, hits, statuses, one-self}

@@ -1,7 +1,10 @@
 -- Weights: what a packet, an agent's slot or a status counts for. A count over a lock's state is a weight summed over the packets
 -- on the wire plus one summed over the all-machines machines, so there is no agent to search for. Clients and machines are numbers here.
 -- Suffixes: M of a message, P of a packet, S of a slot, W of a waiter, F of a status or an owner.
-use Rattle.theorems.specs.Names.{Bool, true, false, _&&_, not, ℕ, _+_, _*_, length, getD, eqb, leb, ltb, MachineId, ClientId, Mode, Exclusive, Shared, Owner, Unowned, Owned, Waiter, Agent, AgentSlot, Address, ToDecider, ToMachine, Message, Acquire, Grant, Release, Free, Packet, Status, Idle, Waiting, Holding, LockState, waiters, noAgent, idle, packets, machines, clients, machineOf, ownedShared}
+use Rattle.theorems.specs.Names.{Bool, true, false, _&&_, not, ℕ, _+_, _*_, length, getD, eqb, leb, ltb, MachineId, ClientId, Mode, Exclusive, Shared}
+use Rattle.theorems.specs.Names.{Owner, Unowned, Owned, Waiter, Agent, AgentSlot, Address, ToDecider, ToMachine, Message, Acquire, Grant, Release, Free}
+use Rattle.theorems.specs.Names.{Packet, Status, Idle, Waiting, Holding, LockState, waiters, noAgent, idle, packets, machines, clients, machineOf}
+use Rattle.theorems.specs.Names.{ownedShared}
 use Rattle.theorems.specs.Tally.{flag, gate, tally}
 
 abbrev pub statusAt : LockState → ℕ → Status

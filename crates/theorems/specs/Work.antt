@@ -1,7 +1,12 @@
 -- The work that is left on a lock: what each packet, agent and client counts for, how a step changes it, and its bound.
-use Rattle.theorems.specs.Names.{MachineId, ClientId, Mode, Exclusive, Shared, Owner, Waiter, Agent, AgentSlot, Address, ToDecider, ToMachine, Message, Free, Acquire, Grant, Release, Packet, ClientState, LockState, _≡_, refl, _∙_, Bool, true, false, and-false, false≢true, List, [], _∷_, ℕ, zero, suc, _+_, _*_, _≤_, arith, length, getD, set, ltb, ltb-true, idle, waiters, noAgent, packets, Site, apply, bool-cases, clients}
-use Rattle.theorems.specs.Tally.{flag, gate, tally, tally-at, tally-le, tally-le-at, tally-add, tally-zero, tally-length, sumTo, sum-swap, sum-le, sum-ext, sum-add, sum-one}
-use Rattle.theorems.specs.Weights.{statusAt, slotAt, weight, one, hit, hitW, askM, queuedS, waitingP, markM, listedS, listedP, owedM, owedP, releaseM, releaseP, agentS, agentP, heads, waitF, holdF, misfitS, fits, fitsP, misfitP}
+use Rattle.theorems.specs.Names.{MachineId, ClientId, Mode, Exclusive, Shared, Owner, Waiter, Agent, AgentSlot, Address, ToDecider, ToMachine, Message}
+use Rattle.theorems.specs.Names.{Free, Acquire, Grant, Release, Packet, ClientState, LockState, _≡_, refl, _∙_, Bool, true, false, and-false, false≢true}
+use Rattle.theorems.specs.Names.{List, [], _∷_, ℕ, zero, suc, _+_, _*_, _≤_, arith, length, getD, set, ltb, ltb-true, idle, waiters, noAgent, packets}
+use Rattle.theorems.specs.Names.{Site, apply, bool-cases, clients}
+use Rattle.theorems.specs.Tally.{flag, gate, tally, tally-at, tally-le, tally-le-at, tally-add, tally-zero, tally-length, sumTo, sum-swap, sum-le}
+use Rattle.theorems.specs.Tally.{sum-ext, sum-add, sum-one}
+use Rattle.theorems.specs.Weights.{statusAt, slotAt, weight, one, hit, hitW, askM, queuedS, waitingP, markM, listedS, listedP, owedM, owedP, releaseM}
+use Rattle.theorems.specs.Weights.{releaseP, agentS, agentP, heads, waitF, holdF, misfitS, fits, fitsP, misfitP}
 use Rattle.theorems.specs.Invariant.{Inv}
 use Rattle.theorems.specs.InvariantStep.{packets-after, Split}
 use Rattle.theorems.specs.Facts.{fit, named-of, away-of, home-of, far-idle, farW, far-none, hits, statuses, owned-one}

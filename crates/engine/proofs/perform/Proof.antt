@@ -1,4 +1,5 @@
-use Rattle.engine.proofs.Calls.{_≡_, ap, sym, _∙_, _<_, _≤_, arith, needs, locks, lock-read, lock-formed, lockIn, ready, LockState, carriedOut, perform-accepts, perform-refuses, perform-malformed, perform-range}
+use Rattle.engine.proofs.Calls.{_≡_, ap, sym, _∙_, _<_, _≤_, arith, needs, locks, lock-read, lock-formed, lockIn, ready, LockState, carriedOut}
+use Rattle.engine.proofs.Calls.{perform-accepts, perform-refuses, perform-malformed, perform-range}
 use Rattle.engine.proofs.perform.Statement.{statement}
 use Rattle.engine.proofs.perform.Tie as tie
 

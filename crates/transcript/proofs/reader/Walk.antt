@@ -17,9 +17,11 @@ pub use contract.Lifetimes.{Lfts}
 pub use contract.Monad.{Fun, fact}
 pub use contract.Running.{givenOf, tables}
 unfoldable pub use contract.Running.{tablesOf}
-pub use types.Kit.{Given, ‵, raw, _⊛_, given, ⋆, some, later, _$_, _∵_, !, qed, by, move, drop, use1, use2, split, join, learn, pick, fsplit, fjoin, suffices, frame, await, done}
+pub use types.Kit.{Given, ‵, raw, _⊛_, given, ⋆, some, later, _$_, _∵_, !, qed, by, move, drop, use1, use2, split, join, learn, pick, fsplit, fjoin, suffices}
+pub use types.Kit.{frame, await, done}
 pub use types.Part.{whole, sub, look-in, agg}
-pub use types.Run.{look, init, forget, stop, fld, from, load, lit, of-opd, and-then, no-more, assigns, land, returns, enter, alloc1, alloc0, params1, pass1, pass0, free1, free0}
+pub use types.Run.{look, init, forget, stop, fld, from, load, lit, of-opd, and-then, no-more, assigns, land, returns, enter, alloc1, alloc0, params1, pass1}
+pub use types.Run.{pass0, free1, free0}
 pub use sound.WpLaws.{FmC, fmOf, WpFn-mono}
 pub use denote.RattleType.{RattleType, owns}
 pub use denote.Laws.{Is, shows}

@@ -1,4 +1,5 @@
-use Rattle.engine.proofs.Base.{sym, ap, false≢true, arith, needs, Stepped, deliver-formed, length-packets, ready, Course, course-start, delivers-next, leg-on, leg-spent, leg-refused, course-on, plan-accepts, plan-refuses}
+use Rattle.engine.proofs.Base.{sym, ap, false≢true, arith, needs, Stepped, deliver-formed, length-packets, ready, Course, course-start, delivers-next}
+use Rattle.engine.proofs.Base.{leg-on, leg-spent, leg-refused, course-on, plan-accepts, plan-refuses}
 use Rattle.engine.proofs.draining.deliver_all.Statement.{statement}
 use Rattle.engine.proofs.draining.deliver_all.Tie as tie
 

@@ -1,4 +1,5 @@
-use Rattle.engine.proofs.Base.{_≡_, sym, ap, false≢true, arith, needs, Stepped, release-formed, ready, Course, course-start, releases-next, leg-on, leg-rests, leg-spent, leg-refused, course-on, plan-accepts, plan-refuses}
+use Rattle.engine.proofs.Base.{_≡_, sym, ap, false≢true, arith, needs, Stepped, release-formed, ready, Course, course-start, releases-next, leg-on}
+use Rattle.engine.proofs.Base.{leg-rests, leg-spent, leg-refused, course-on, plan-accepts, plan-refuses}
 use Rattle.engine.proofs.draining.release_all.Statement.{statement}
 use Rattle.engine.proofs.draining.release_all.Tie as tie
 

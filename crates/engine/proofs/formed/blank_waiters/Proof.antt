@@ -1,4 +1,5 @@
-use Rattle.engine.proofs.Base.{_≡_, sym, _∙_, _&&_, _-_, arith, length, queueCapacity, drop, needs, all, isBlankWaiter, shaped, blankWaiter, join-next, join-end}
+use Rattle.engine.proofs.Base.{_≡_, sym, _∙_, _&&_, _-_, arith, length, queueCapacity, drop, needs, all, isBlankWaiter, shaped, blankWaiter, join-next}
+use Rattle.engine.proofs.Base.{join-end}
 use Rattle.engine.proofs.formed.blank_waiters.Statement.{statement}
 use Rattle.engine.proofs.formed.blank_waiters.Tie as tie
 

@@ -1,4 +1,5 @@
-use Rattle.engine.proofs.Base.{_≡_, sym, _∙_, _&&_, _-_, arith, length, wireCapacity, drop, needs, all, take, packetFormed, blankPacket, first-next, first-end}
+use Rattle.engine.proofs.Base.{_≡_, sym, _∙_, _&&_, _-_, arith, length, wireCapacity, drop, needs, all, take, packetFormed, blankPacket, first-next}
+use Rattle.engine.proofs.Base.{first-end}
 use Rattle.engine.proofs.formed.packets_formed.Statement.{statement}
 use Rattle.engine.proofs.formed.packets_formed.Tie as tie
 

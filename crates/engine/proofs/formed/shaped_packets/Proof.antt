@@ -1,4 +1,5 @@
-use Rattle.engine.proofs.Base.{_≡_, sym, _∙_, _&&_, _-_, arith, length, wireCapacity, drop, needs, all, isBlankPacket, shaped, blankPacket, join-next, join-end}
+use Rattle.engine.proofs.Base.{_≡_, sym, _∙_, _&&_, _-_, arith, length, wireCapacity, drop, needs, all, isBlankPacket, shaped, blankPacket, join-next}
+use Rattle.engine.proofs.Base.{join-end}
 use Rattle.engine.proofs.formed.shaped_packets.Statement.{statement}
 use Rattle.engine.proofs.formed.shaped_packets.Tie as tie
 

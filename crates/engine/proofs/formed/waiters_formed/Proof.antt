@@ -1,4 +1,5 @@
-use Rattle.engine.proofs.Base.{_≡_, sym, _∙_, _-_, arith, length, clients, queueCapacity, length-set, take, drop, needs, blankWaiter, allNew, pass-whole, pass-far, pass-twice, pass-next, pass-end}
+use Rattle.engine.proofs.Base.{_≡_, sym, _∙_, _-_, arith, length, clients, queueCapacity, length-set, take, drop, needs, blankWaiter, allNew, pass-whole}
+use Rattle.engine.proofs.Base.{pass-far, pass-twice, pass-next, pass-end}
 use Rattle.engine.proofs.formed.waiters_formed.Statement.{statement}
 use Rattle.engine.proofs.formed.waiters_formed.Tie as tie
 

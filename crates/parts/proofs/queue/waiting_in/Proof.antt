@@ -1,4 +1,5 @@
-use Rattle.parts.proofs.Base.{_≡_, sym, _∙_, _-_, _≤_, arith, length, take, drop, needs, eq-eqb, ne-eqb, any, blankWaiter, isClient, used-hit, used-miss, used-none, queueCapacity}
+use Rattle.parts.proofs.Base.{_≡_, sym, _∙_, _-_, _≤_, arith, length, take, drop, needs, eq-eqb, ne-eqb, any, blankWaiter, isClient, used-hit, used-miss}
+use Rattle.parts.proofs.Base.{used-none, queueCapacity}
 use Rattle.parts.proofs.queue.waiting_in.Statement.{statement}
 use Rattle.parts.proofs.queue.waiting_in.Tie as tie
 

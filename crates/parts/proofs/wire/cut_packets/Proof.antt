@@ -1,4 +1,5 @@
-use Rattle.parts.proofs.Base.{_≡_, sym, _∙_, _-_, _≤_, arith, length, length-set, needs, blankPacket, cutUsed-step, cutUsed-last, cutAt, cutAt-in, cutAt-out, wireCapacity}
+use Rattle.parts.proofs.Base.{_≡_, sym, _∙_, _-_, _≤_, arith, length, length-set, needs, blankPacket, cutUsed-step, cutUsed-last, cutAt, cutAt-in}
+use Rattle.parts.proofs.Base.{cutAt-out, wireCapacity}
 use Rattle.parts.proofs.wire.cut_packets.Statement.{statement}
 use Rattle.parts.proofs.wire.cut_packets.Tie as tie
 

@@ -1,4 +1,5 @@
-use Rattle.parts.proofs.Base.{_≡_, sym, _∙_, _-_, _≤_, arith, length, take, drop, needs, any, blankPacket, names, used-hit, used-miss, used-none, wireCapacity}
+use Rattle.parts.proofs.Base.{_≡_, sym, _∙_, _-_, _≤_, arith, length, take, drop, needs, any, blankPacket, names, used-hit, used-miss, used-none}
+use Rattle.parts.proofs.Base.{wireCapacity}
 use Rattle.parts.proofs.wire.names_any.Statement.{statement}
 use Rattle.parts.proofs.wire.names_any.Tie as tie
 

@@ -1,4 +1,5 @@
-use Rattle.rules.proofs.Base.{_≡_, refl, sym, _∙_, _+_, _-_, _≤_, arith, length, take, drop, needs, queueCapacity, blankWaiter, used-more, used-end, Room, admits, admits-none, admits-next, room-next}
+use Rattle.rules.proofs.Base.{_≡_, refl, sym, _∙_, _+_, _-_, _≤_, arith, length, take, drop, needs, queueCapacity, blankWaiter, used-more, used-end}
+use Rattle.rules.proofs.Base.{Room, admits, admits-none, admits-next, room-next}
 use Rattle.rules.proofs.machine.admit_all.Statement.{statement}
 use Rattle.rules.proofs.machine.admit_all.Tie as tie
 

@@ -1,4 +1,5 @@
-use Rattle.rules.proofs.Base.{_≡_, _∙_, map, _+_, _-_, _≤_, arith, length, take, drop, length-set, sets, needs, blankWaiter, used-more, used-end, grantOf, add-one, queueCapacity, wireCapacity}
+use Rattle.rules.proofs.Base.{_≡_, _∙_, map, _+_, _-_, _≤_, arith, length, take, drop, length-set, sets, needs, blankWaiter, used-more, used-end}
+use Rattle.rules.proofs.Base.{grantOf, add-one, queueCapacity, wireCapacity}
 use Rattle.rules.proofs.plan.lay_grants.Statement.{statement}
 use Rattle.rules.proofs.plan.lay_grants.Tie as tie
 

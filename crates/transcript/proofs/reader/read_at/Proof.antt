@@ -3,7 +3,16 @@
 -- Assumes nothing.
 use denote.Struct.Laws as LL
 use denote.Enum.Laws as EL
-use Rattle.transcript.proofs.reader.Walk.{_≡_, refl, ap, _∙_, ℕ, _<_, _^_, List, [], _∷_, length, URA, named, erased, w64, Val, vint, SProp, ent, sep, emp, via, fst∗, snd∗, exE, id⊢, Lft, Share, Fml, ftrue, flft, Memory, Routine, Heap, Calls, Loops, WpFn, Tables, Atoms, sem, Fun, fact, givenOf, tables, tablesOf, Given, ‵, raw, _⊛_, ⋆, some, later, _$_, _∵_, !, qed, by, move, drop, use1, use2, split, join, pick, fsplit, fjoin, suffices, frame, await, done, look, init, forget, stop, from, load, and-then, no-more, land, returns, enter, alloc1, alloc0, params1, pass1, pass0, free1, free0, FmC, fmOf, WpFn-mono, owns, Is, shows, uint-vals, uint-tells, uint-makes, u8, usize, RefT, NamedLft, now, plain, sliceVal, ShrSlice, slice-vals, shr-slice-tells, shr-slice-lawful, shr-slice-copy, owned, peeks, heard, nothing, Contract, Triple, calls-at, Vals, onEntry, Meets, tripleOf, entered, cited, says, Stays, stay-none, stay-none-slice, walkOf, goes-none, goes-none-slice, Walks, ends-at, walked, walk-meets, ensured, lasts, yes, readRecord, Reading, Reader, B}
+use Rattle.transcript.proofs.reader.Walk.{_≡_, refl, ap, _∙_, ℕ, _<_, _^_, List, [], _∷_, length, URA, named, erased, w64, Val, vint, SProp, ent, sep}
+use Rattle.transcript.proofs.reader.Walk.{emp, via, fst∗, snd∗, exE, id⊢, Lft, Share, Fml, ftrue, flft, Memory, Routine, Heap, Calls, Loops, WpFn}
+use Rattle.transcript.proofs.reader.Walk.{Tables, Atoms, sem, Fun, fact, givenOf, tables, tablesOf, Given, ‵, raw, _⊛_, ⋆, some, later, _$_, _∵_, !, qed}
+use Rattle.transcript.proofs.reader.Walk.{by, move, drop, use1, use2, split, join, pick, fsplit, fjoin, suffices, frame, await, done, look, init, forget}
+use Rattle.transcript.proofs.reader.Walk.{stop, from, load, and-then, no-more, land, returns, enter, alloc1, alloc0, params1, pass1, pass0, free1, free0}
+use Rattle.transcript.proofs.reader.Walk.{FmC, fmOf, WpFn-mono, owns, Is, shows, uint-vals, uint-tells, uint-makes, u8, usize, RefT, NamedLft, now}
+use Rattle.transcript.proofs.reader.Walk.{plain, sliceVal, ShrSlice, slice-vals, shr-slice-tells, shr-slice-lawful, shr-slice-copy, owned, peeks, heard}
+use Rattle.transcript.proofs.reader.Walk.{nothing, Contract, Triple, calls-at, Vals, onEntry, Meets, tripleOf, entered, cited, says, Stays, stay-none}
+use Rattle.transcript.proofs.reader.Walk.{stay-none-slice, walkOf, goes-none, goes-none-slice, Walks, ends-at, walked, walk-meets, ensured, lasts, yes}
+use Rattle.transcript.proofs.reader.Walk.{readRecord, Reading, Reader, B}
 use Rattle.model.proofs.Reading as S
 use Rattle.model.proofs.Reading.Laws as S′
 use Rattle.transcript.proofs.reader.Reader as T

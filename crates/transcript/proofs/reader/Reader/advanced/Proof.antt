@@ -2,7 +2,13 @@
 -- The struct is Copy: what it owns is had twice, one copy is kept whole for the exit, and the other, with the facts of the number in the place of at's, is what the result owns.
 -- Assumes nothing.
 use denote.Struct.Laws as LL
-use Rattle.transcript.proofs.reader.Walk.{refl, ℕ, _<_, _^_, [], _∷_, Holds, URA, named, w64, Val, WT, hasTy, vint, SProp, ent, emp, via, fst∗, Lft, Share, Fml, ftrue, flft, Memory, Routine, Heap, Calls, Loops, WpFn, Tables, Atoms, Fun, givenOf, tables, tablesOf, Given, ‵, _⊛_, _$_, _∵_, !, qed, by, move, use1, split, fsplit, fjoin, suffices, frame, whole, sub, look-in, agg, look, init, forget, stop, fld, from, load, of-opd, and-then, no-more, assigns, returns, enter, alloc1, alloc0, params1, pass1, pass0, free1, free0, WpFn-mono, owns, Is, uint-vals, uint-tells, uint-makes, usize, namedLft, owned, own-put, Vals, onEntry, Meets, tripleOf, entered, says, Stays, stay-none, walkOf, goes-none, Walks, ends-at, walked, walk-meets, yes, Reader, D, B, L}
+use Rattle.transcript.proofs.reader.Walk.{refl, ℕ, _<_, _^_, [], _∷_, Holds, URA, named, w64, Val, WT, hasTy, vint, SProp, ent, emp, via, fst∗, Lft}
+use Rattle.transcript.proofs.reader.Walk.{Share, Fml, ftrue, flft, Memory, Routine, Heap, Calls, Loops, WpFn, Tables, Atoms, Fun, givenOf, tables}
+use Rattle.transcript.proofs.reader.Walk.{tablesOf, Given, ‵, _⊛_, _$_, _∵_, !, qed, by, move, use1, split, fsplit, fjoin, suffices, frame, whole, sub}
+use Rattle.transcript.proofs.reader.Walk.{look-in, agg, look, init, forget, stop, fld, from, load, of-opd, and-then, no-more, assigns, returns, enter}
+use Rattle.transcript.proofs.reader.Walk.{alloc1, alloc0, params1, pass1, pass0, free1, free0, WpFn-mono, owns, Is, uint-vals, uint-tells, uint-makes}
+use Rattle.transcript.proofs.reader.Walk.{usize, namedLft, owned, own-put, Vals, onEntry, Meets, tripleOf, entered, says, Stays, stay-none, walkOf}
+use Rattle.transcript.proofs.reader.Walk.{goes-none, Walks, ends-at, walked, walk-meets, yes, Reader, D, B, L}
 use Rattle.transcript.proofs.reader.Reader.Laws as T′
 use Rattle.transcript.proofs.reader.Reader.advanced.Key.{name as #advanced}
 use Rattle.transcript.proofs.reader.Reader.advanced as advanced

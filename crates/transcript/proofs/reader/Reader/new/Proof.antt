@@ -1,7 +1,13 @@
 -- `reader::Reader::new` meets its contract: a walk of its MIR, by hand. A reader is made of the slice passed and 0, in the result's local.
 -- A `&[u8]` is Copy, so what it owns is had twice: once for bytes at exit, and once inside the result, beside the facts of at.
 -- Assumes nothing.
-use Rattle.transcript.proofs.reader.Walk.{refl, ℕ, List, [], _∷_, lit<, length, URA, named, w64, Val, SProp, ent, emp, via, fst∗, Lft, Share, Fml, ftrue, flft, Memory, Routine, Heap, Calls, Loops, WpFn, Tables, Atoms, Fun, givenOf, tables, tablesOf, Given, ‵, raw, _⊛_, _$_, _∵_, !, qed, by, move, use1, split, fsplit, fjoin, suffices, frame, agg, look, init, forget, stop, from, load, lit, and-then, no-more, assigns, returns, enter, alloc1, alloc0, params1, pass1, pass0, free1, free0, WpFn-mono, owns, Is, uint-makes, u8, usize, RefT, plain, sliceVal, ShrSlice, slice-vals, shr-slice-tells, shr-slice-lawful, shr-slice-copy, owned, nothing, own-shut, onEntry, Meets, tripleOf, entered, says, Stays, stay-none-slice, walkOf, goes-none-slice, Walks, ends-at, walked, walk-meets, yes, Reader, D, L}
+use Rattle.transcript.proofs.reader.Walk.{refl, ℕ, List, [], _∷_, lit<, length, URA, named, w64, Val, SProp, ent, emp, via, fst∗, Lft, Share, Fml, ftrue}
+use Rattle.transcript.proofs.reader.Walk.{flft, Memory, Routine, Heap, Calls, Loops, WpFn, Tables, Atoms, Fun, givenOf, tables, tablesOf, Given, ‵, raw}
+use Rattle.transcript.proofs.reader.Walk.{_⊛_, _$_, _∵_, !, qed, by, move, use1, split, fsplit, fjoin, suffices, frame, agg, look, init, forget, stop}
+use Rattle.transcript.proofs.reader.Walk.{from, load, lit, and-then, no-more, assigns, returns, enter, alloc1, alloc0, params1, pass1, pass0, free1}
+use Rattle.transcript.proofs.reader.Walk.{free0, WpFn-mono, owns, Is, uint-makes, u8, usize, RefT, plain, sliceVal, ShrSlice, slice-vals}
+use Rattle.transcript.proofs.reader.Walk.{shr-slice-tells, shr-slice-lawful, shr-slice-copy, owned, nothing, own-shut, onEntry, Meets, tripleOf, entered}
+use Rattle.transcript.proofs.reader.Walk.{says, Stays, stay-none-slice, walkOf, goes-none-slice, Walks, ends-at, walked, walk-meets, yes, Reader, D, L}
 use Rattle.transcript.proofs.reader.Reader.Laws as T′
 use Rattle.transcript.proofs.reader.Reader.new.Key.{name as #new}
 use Rattle.transcript.proofs.reader.Reader.new as new

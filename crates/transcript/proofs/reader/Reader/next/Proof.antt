@@ -3,7 +3,16 @@
 -- Assumes nothing.
 use denote.Struct.Laws as LL
 use denote.Enum.Laws as EL
-use Rattle.transcript.proofs.reader.Walk.{_≡_, refl, _<_, _^_, [], _∷_, Holds, length, URA, named, w64, Val, WT, hasTy, vint, SProp, ent, sep, emp, via, fst∗, snd∗, exE, id⊢, Lft, Share, Fml, ftrue, flft, Memory, Routine, Heap, Calls, Loops, WpFn, Tables, Atoms, sem, Fun, fact, givenOf, tables, tablesOf, Given, ‵, raw, _⊛_, given, ⋆, some, later, _$_, _∵_, !, qed, by, move, drop, use1, use2, split, join, learn, pick, fsplit, fjoin, suffices, frame, await, done, whole, sub, look-in, look, init, forget, stop, fld, from, load, of-opd, and-then, no-more, assigns, land, returns, enter, alloc1, alloc0, params1, pass1, pass0, free1, free0, FmC, fmOf, WpFn-mono, owns, Is, shows, uint-makes, u8, usize, now, namedLft, sliceVal, ShrSlice, owned, peeks, heard, nothing, all-own, ownAt, rest, own-open, own-out, Values, Contract, Triple, calls-at, Vals, onEntry, Meets, tripleOf, entered, cited, says, Stays, stay-none, walkOf, goes-none, Walks, ends-at, walked, walk-meets, ensured, lasts, yes, readRecord, Reading, Reader, D, B, L}
+use Rattle.transcript.proofs.reader.Walk.{_≡_, refl, _<_, _^_, [], _∷_, Holds, length, URA, named, w64, Val, WT, hasTy, vint, SProp, ent, sep, emp, via}
+use Rattle.transcript.proofs.reader.Walk.{fst∗, snd∗, exE, id⊢, Lft, Share, Fml, ftrue, flft, Memory, Routine, Heap, Calls, Loops, WpFn, Tables, Atoms}
+use Rattle.transcript.proofs.reader.Walk.{sem, Fun, fact, givenOf, tables, tablesOf, Given, ‵, raw, _⊛_, given, ⋆, some, later, _$_, _∵_, !, qed, by}
+use Rattle.transcript.proofs.reader.Walk.{move, drop, use1, use2, split, join, learn, pick, fsplit, fjoin, suffices, frame, await, done, whole, sub}
+use Rattle.transcript.proofs.reader.Walk.{look-in, look, init, forget, stop, fld, from, load, of-opd, and-then, no-more, assigns, land, returns, enter}
+use Rattle.transcript.proofs.reader.Walk.{alloc1, alloc0, params1, pass1, pass0, free1, free0, FmC, fmOf, WpFn-mono, owns, Is, shows, uint-makes, u8}
+use Rattle.transcript.proofs.reader.Walk.{usize, now, namedLft, sliceVal, ShrSlice, owned, peeks, heard, nothing, all-own, ownAt, rest, own-open}
+use Rattle.transcript.proofs.reader.Walk.{own-out, Values, Contract, Triple, calls-at, Vals, onEntry, Meets, tripleOf, entered, cited, says, Stays}
+use Rattle.transcript.proofs.reader.Walk.{stay-none, walkOf, goes-none, Walks, ends-at, walked, walk-meets, ensured, lasts, yes, readRecord, Reading}
+use Rattle.transcript.proofs.reader.Walk.{Reader, D, B, L}
 use Rattle.transcript.proofs.reader.Reader.Laws as T′
 use Rattle.model.proofs.Reading as S
 use Rattle.model.proofs.Reading.Laws as S′
