@@ -35,7 +35,7 @@ pub fn first(q: Queue) -> Waiter
 }
 
 // The first of n waiters is out, the others move up, and the freed slot is blank.
-pub fn cut_waiters(a: [Waiter; QUEUE_CAPACITY], n: usize) -> [Waiter; QUEUE_CAPACITY]
+fn cut_waiters(a: [Waiter; QUEUE_CAPACITY], n: usize) -> [Waiter; QUEUE_CAPACITY]
     requires { ⌜ (0 < n) × (n ≤ queueCapacity) ⌝ }
     ensures { λ r. ⌜ r ≡ cutUsed a 0 n blankWaiter ⌝ }
 {
@@ -64,7 +64,7 @@ pub fn pop(q: Queue) -> Queue
 }
 
 // The first n waiters move down by one, and w stands before them.
-pub fn slide_waiters(a: [Waiter; QUEUE_CAPACITY], n: usize, w: Waiter) -> [Waiter; QUEUE_CAPACITY]
+fn slide_waiters(a: [Waiter; QUEUE_CAPACITY], n: usize, w: Waiter) -> [Waiter; QUEUE_CAPACITY]
     requires { ⌜ n < queueCapacity ⌝ }
     ensures { λ r. ⌜ r ≡ slid a n w ⌝ }
 {
@@ -91,7 +91,7 @@ pub fn push_front(q: Queue, w: Waiter) -> Queue
     }
 }
 
-pub fn waiting_in(a: [Waiter; QUEUE_CAPACITY], n: usize, c: ClientId) -> bool
+fn waiting_in(a: [Waiter; QUEUE_CAPACITY], n: usize, c: ClientId) -> bool
     requires { ⌜ n ≤ queueCapacity ⌝ }
     ensures { λ r. ⌜ r ≡ any (isClient c) (take n a) ⌝ }
 {

@@ -16,7 +16,7 @@ ghost use Rattle.laws.specs.Shapes.{CanonicalWire};
 ghost use Rattle.parts.specs.Arrays.{cutAt};
 
 // Only the used part moves: the packet at i is out of the first n, the others stand first, and the freed slot is blank. Past the n none is out.
-pub fn cut_packets(a: [Packet; WIRE_CAPACITY], i: usize, n: usize) -> [Packet; WIRE_CAPACITY]
+fn cut_packets(a: [Packet; WIRE_CAPACITY], i: usize, n: usize) -> [Packet; WIRE_CAPACITY]
     requires { ⌜ (i ≤ 255) × (n ≤ wireCapacity) ⌝ }
     ensures { λ r. ⌜ r ≡ cutAt a i n blankPacket ⌝ }
 {
@@ -62,7 +62,7 @@ pub fn packet_at(w: Wire, i: u8) -> Packet
 }
 
 // FREE names no client.
-pub fn message_names(m: Message, c: ClientId) -> bool
+fn message_names(m: Message, c: ClientId) -> bool
     ensures { λ r. ⌜ r ≡ messageNames c m ⌝ }
 {
     match m {
@@ -77,7 +77,7 @@ pub fn message_names(m: Message, c: ClientId) -> bool
     }
 }
 
-pub fn names_any(a: [Packet; WIRE_CAPACITY], n: usize, c: ClientId) -> bool
+fn names_any(a: [Packet; WIRE_CAPACITY], n: usize, c: ClientId) -> bool
     requires { ⌜ n ≤ wireCapacity ⌝ }
     ensures { λ r. ⌜ r ≡ any (names c) (take n a) ⌝ }
 {

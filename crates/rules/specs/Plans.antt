@@ -45,7 +45,7 @@ module _ {p : Plan} {s : LockState} {t : Stepped} (h : Plans p s t) where
 refused-accepted : (n : Refusal) → Refused n ≡ Accepted → ⊥
 refused-accepted n e = let z : _≡_ {A = ℕ} 0 1 = cc in absurd (omega arith)
 
--- ---- how a rule's effect is judged
+-- ---- the plan of a rule's effect
 pub plans-refusal : (p : Plan) (n : Refusal) (s : LockState) → p .answer ≡ Refused n → Plans p s (refused n s)
 unfolding endsWith
 plans-refusal p n s e = record { ends = ap (λ (a : Answer). endsWith a p s) e; fits = λ q. absurd (refused-accepted n (sym e ∙ q)) }

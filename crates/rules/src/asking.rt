@@ -30,7 +30,7 @@ ghost use Rattle.laws.specs.Shapes.{CanonicalQueue};
 ghost use Rattle.rules.specs.Effects.{verdictOf};
 
 // A request may join the holders of the site's agent: agent and request are both shared.
-pub fn may_join(v: Site, m: Mode) -> bool
+pub(crate) fn may_join(v: Site, m: Mode) -> bool
     ensures { λ r. ⌜ r ≡ mayJoin v m ⌝ }
 {
     let x = v.slot;
@@ -40,7 +40,7 @@ pub fn may_join(v: Site, m: Mode) -> bool
 }
 
 // The client joins the end of the agent's queue.
-pub fn queue_last(v: Site, mut a: Agent, c: ClientId, m: Mode) -> Effect
+pub(crate) fn queue_last(v: Site, mut a: Agent, c: ClientId, m: Mode) -> Effect
     requires { ⌜ CanonicalQueue (a .queue) ⌝ }
     ensures { λ r. ⌜ verdictOf r ≡ withRoom a c (does (withSlot v (someAgent (queuing a c m))) []) ⌝ }
 {
@@ -54,7 +54,7 @@ pub fn queue_last(v: Site, mut a: Agent, c: ClientId, m: Mode) -> Effect
 }
 
 // The agent a is on the client's machine.
-pub fn ask_agent(v: Site, a: Agent, c: ClientId, m: Mode) -> Effect
+fn ask_agent(v: Site, a: Agent, c: ClientId, m: Mode) -> Effect
     requires { ⌜ CanonicalQueue (a .queue) ⌝ }
     ensures { λ r. ⌜ verdictOf r ≡ clientAsks v c m true a ⌝ }
 {
@@ -68,7 +68,7 @@ pub fn ask_agent(v: Site, a: Agent, c: ClientId, m: Mode) -> Effect
 }
 
 // No agent is on the client's machine.
-pub fn ask_decider(v: Site, c: ClientId, m: Mode) -> Effect
+fn ask_decider(v: Site, c: ClientId, m: Mode) -> Effect
     ensures { λ r. ⌜ ((a : Agent) → verdictOf r ≡ clientAsks v c m false a) ⌝ }
 {
     let p = plain_packet(
@@ -83,7 +83,7 @@ pub fn ask_decider(v: Site, c: ClientId, m: Mode) -> Effect
     doing(w, one_packet(p))
 }
 
-pub fn acquire(v: Site, c: ClientId, m: Mode) -> Effect
+pub(crate) fn acquire(v: Site, c: ClientId, m: Mode) -> Effect
     requires { ⌜ CanonicalQueue (v .slot .agent .queue) ⌝ }
     ensures { λ r. ⌜ verdictOf r ≡ clientAcquires v c m ⌝ }
 {

@@ -32,7 +32,7 @@ ghost use Rattle.model.specs.AtDecider.{decides, atDecider};
 ghost use Rattle.rules.specs.Effects.{verdictOf};
 
 // The decider may grant the request beside the holders: lock and request are both shared.
-pub fn may_share(v: Site, m: Mode) -> bool
+fn may_share(v: Site, m: Mode) -> bool
     ensures { λ r. ⌜ r ≡ mayShare v m ⌝ }
 {
     let d = v.decider;
@@ -55,7 +55,7 @@ fn rejected_to(p: Packet, k: MachineId) -> Packet
     resent(p, Address::Machine(k), true)
 }
 
-pub fn to_owner(o: Owner, v: Site, p: Packet) -> Effect
+fn to_owner(o: Owner, v: Site, p: Packet) -> Effect
     ensures { λ r. ⌜ verdictOf r ≡ toOwner o v p ⌝ }
 {
     match o {
@@ -65,7 +65,7 @@ pub fn to_owner(o: Owner, v: Site, p: Packet) -> Effect
 }
 
 // The client's machine becomes the owner, and gets the agent a with the GRANT.
-pub fn grants_with(v: Site, c: ClientId, m: Mode, a: Agent) -> Effect
+fn grants_with(v: Site, c: ClientId, m: Mode, a: Agent) -> Effect
     ensures { λ r. ⌜ verdictOf r ≡ grantsWith v c m a ⌝ }
 {
     let k = machine_of(c);
@@ -82,14 +82,14 @@ pub fn grants_with(v: Site, c: ClientId, m: Mode, a: Agent) -> Effect
     doing(w, one_packet(p))
 }
 
-pub fn grants_first(v: Site, c: ClientId, m: Mode) -> Effect
+fn grants_first(v: Site, c: ClientId, m: Mode) -> Effect
     ensures { λ r. ⌜ verdictOf r ≡ grantsFirst v c m ⌝ }
 {
     grants_with(v, c, m, new_agent(m))
 }
 
 // The GRANT goes out before the marked ACQUIRE.
-pub fn shares(v: Site, c: ClientId, k: MachineId) -> Effect
+fn shares(v: Site, c: ClientId, k: MachineId) -> Effect
     ensures { λ r. ⌜ verdictOf r ≡ shares v c k ⌝ }
 {
     let old = v.decider;
@@ -118,7 +118,7 @@ pub fn shares(v: Site, c: ClientId, k: MachineId) -> Effect
     doing(w, two_packets(g, a))
 }
 
-pub fn decides_acquire(o: Owner, v: Site, p: Packet, c: ClientId, m: Mode, granted: bool) -> Effect
+fn decides_acquire(o: Owner, v: Site, p: Packet, c: ClientId, m: Mode, granted: bool) -> Effect
     ensures { λ r. ⌜ verdictOf r ≡ decidesAcquire o v p c m granted ⌝ }
 {
     if granted {
@@ -128,7 +128,7 @@ pub fn decides_acquire(o: Owner, v: Site, p: Packet, c: ClientId, m: Mode, grant
     }
 }
 
-pub fn decides_unmarked(o: Owner, v: Site, p: Packet, c: ClientId, m: Mode) -> Effect
+fn decides_unmarked(o: Owner, v: Site, p: Packet, c: ClientId, m: Mode) -> Effect
     ensures { λ r. ⌜ verdictOf r ≡ decidesAcquire o v p c m false ⌝ }
 {
     match o {
@@ -144,13 +144,13 @@ pub fn decides_unmarked(o: Owner, v: Site, p: Packet, c: ClientId, m: Mode) -> E
 }
 
 // The incarnation inside the packet is the decider's.
-pub fn is_current(d: Decider, p: Packet) -> bool
+fn is_current(d: Decider, p: Packet) -> bool
     ensures { λ r. ⌜ r ≡ eqb (p .carried .agent .incarnation) (d .incarnation) ⌝ }
 {
     p.carried.agent.incarnation == d.incarnation
 }
 
-pub fn decides_free(o: Owner, v: Site, p: Packet) -> Effect
+fn decides_free(o: Owner, v: Site, p: Packet) -> Effect
     ensures { λ r. ⌜ verdictOf r ≡ decidesFree o v p ⌝ }
 {
     match o {
@@ -167,7 +167,7 @@ pub fn decides_free(o: Owner, v: Site, p: Packet) -> Effect
 }
 
 // A GRANT with its agent.
-pub fn decides_agent(o: Owner, v: Site, p: Packet, c: ClientId, m: Mode) -> Effect
+fn decides_agent(o: Owner, v: Site, p: Packet, c: ClientId, m: Mode) -> Effect
     ensures { λ r. ⌜ verdictOf r ≡ decidesGrant true o v p c m ⌝ }
 {
     match o {
@@ -185,7 +185,7 @@ pub fn decides_agent(o: Owner, v: Site, p: Packet, c: ClientId, m: Mode) -> Effe
     }
 }
 
-pub fn decides_grant(o: Owner, v: Site, p: Packet, c: ClientId, m: Mode) -> Effect
+fn decides_grant(o: Owner, v: Site, p: Packet, c: ClientId, m: Mode) -> Effect
     ensures { λ r. ⌜ verdictOf r ≡ decidesGrant (p .carried .present) o v p c m ⌝ }
 {
     if p.carried.present {
@@ -195,7 +195,7 @@ pub fn decides_grant(o: Owner, v: Site, p: Packet, c: ClientId, m: Mode) -> Effe
     }
 }
 
-pub fn decides(m: Message, o: Owner, v: Site, p: Packet) -> Effect
+fn decides(m: Message, o: Owner, v: Site, p: Packet) -> Effect
     ensures { λ r. ⌜ verdictOf r ≡ decides m o v p ⌝ }
 {
     match m {
@@ -210,7 +210,7 @@ pub fn decides(m: Message, o: Owner, v: Site, p: Packet) -> Effect
     }
 }
 
-pub fn at_decider(v: Site, p: Packet) -> Effect
+pub(crate) fn at_decider(v: Site, p: Packet) -> Effect
     ensures { λ r. ⌜ verdictOf r ≡ atDecider v p ⌝ }
 {
     let m = p.message;

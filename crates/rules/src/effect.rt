@@ -15,7 +15,7 @@ ghost use Rattle.model.specs.AtMachine.{grantOf};
 ghost use Rattle.rules.specs.Effects.{sentBy, verdictOf};
 
 // Packets sent: the first, or both, or none of two, and then a GRANT for each waiter admitted.
-pub struct Sends {
+pub(crate) struct Sends {
     pub count: u8,
     pub first: Packet,
     pub second: Packet,
@@ -23,20 +23,20 @@ pub struct Sends {
 }
 
 // placed: the step can be placed; site: what it writes.
-pub struct Effect {
+pub(crate) struct Effect {
     pub placed: bool,
     pub site: Site,
     pub sends: Sends,
 }
 
 // ---- packets sent
-pub fn no_packet() -> Sends
+pub(crate) fn no_packet() -> Sends
     ensures { λ r. ⌜ sentBy r ≡ [] ⌝ }
 {
     grants_to(empty_queue())
 }
 
-pub fn one_packet(p: Packet) -> Sends
+pub(crate) fn one_packet(p: Packet) -> Sends
     ensures { λ r. ⌜ sentBy r ≡ p ∷ [] ⌝ }
 {
     let q = empty_queue();
@@ -49,7 +49,7 @@ pub fn one_packet(p: Packet) -> Sends
 }
 
 // p before q.
-pub fn two_packets(p: Packet, q: Packet) -> Sends
+pub(crate) fn two_packets(p: Packet, q: Packet) -> Sends
     ensures { λ r. ⌜ sentBy r ≡ p ∷ q ∷ [] ⌝ }
 {
     let e = empty_queue();
@@ -61,7 +61,7 @@ pub fn two_packets(p: Packet, q: Packet) -> Sends
     }
 }
 
-pub fn grants_to(q: Queue) -> Sends
+pub(crate) fn grants_to(q: Queue) -> Sends
     ensures { λ r. ⌜ sentBy r ≡ map grantOf (waiters q) ⌝ }
 {
     let p = blank_packet();
@@ -73,7 +73,7 @@ pub fn grants_to(q: Queue) -> Sends
     }
 }
 
-pub fn cannot_place() -> Effect
+pub(crate) fn cannot_place() -> Effect
     ensures { λ r. ⌜ verdictOf r ≡ cannot-place ⌝ }
 {
     let d = unowned();
@@ -92,7 +92,7 @@ pub fn cannot_place() -> Effect
 }
 
 // The step is placed: it writes the site and sends the packets.
-pub fn doing(v: Site, t: Sends) -> Effect
+pub(crate) fn doing(v: Site, t: Sends) -> Effect
     ensures { λ r. ⌜ verdictOf r ≡ does v (sentBy t) ⌝ }
 {
     Effect {
@@ -103,7 +103,7 @@ pub fn doing(v: Site, t: Sends) -> Effect
 }
 
 // Nothing but a packet sent.
-pub fn sending(v: Site, p: Packet) -> Effect
+pub(crate) fn sending(v: Site, p: Packet) -> Effect
     ensures { λ r. ⌜ verdictOf r ≡ does v (p ∷ []) ⌝ }
 {
     doing(v, one_packet(p))

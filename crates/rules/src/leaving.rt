@@ -33,7 +33,7 @@ ghost use Rattle.laws.specs.Shapes.{CanonicalQueue};
 ghost use Rattle.rules.specs.Effects.{verdictOf};
 
 // The packet in which the agent goes, with the holders hs: a FREE, or a GRANT for the first waiter.
-pub fn hand_over(mut a: Agent, hs: [bool; CLIENTS]) -> Packet
+fn hand_over(mut a: Agent, hs: [bool; CLIENTS]) -> Packet
     requires { ⌜ CanonicalQueue (a .queue) ⌝ }
     ensures { λ r. ⌜ r ≡ handOver a hs (waiters (a .queue)) ⌝ }
 {
@@ -51,7 +51,7 @@ pub fn hand_over(mut a: Agent, hs: [bool; CLIENTS]) -> Packet
 }
 
 // The agent a removes the holder c and leaves if empty.
-pub fn leave(v: Site, mut a: Agent, c: ClientId) -> Effect
+pub(crate) fn leave(v: Site, mut a: Agent, c: ClientId) -> Effect
     requires { ⌜ CanonicalQueue (a .queue) ⌝ }
     ensures { λ r. ⌜ verdictOf r ≡ leaves v a c ⌝ }
 {
@@ -69,7 +69,7 @@ pub fn leave(v: Site, mut a: Agent, c: ClientId) -> Effect
 }
 
 // An agent is there and lists the client as a holder.
-pub fn listed(x: AgentSlot, c: ClientId) -> bool
+pub(crate) fn listed(x: AgentSlot, c: ClientId) -> bool
     ensures { λ r. ⌜ r ≡ lists x c ⌝ }
 {
     let a = x.agent;
@@ -77,14 +77,14 @@ pub fn listed(x: AgentSlot, c: ClientId) -> bool
     if x.present { holds(h, c) } else { false }
 }
 
-pub fn machine_of(c: ClientId) -> MachineId
+pub(crate) fn machine_of(c: ClientId) -> MachineId
     ensures { λ r. ⌜ r ≡ machineOf c ⌝ }
 {
     MachineId(c.0 / TASKS as u8)
 }
 
 // A client that holds releases.
-pub fn release(v: Site, c: ClientId) -> Effect
+pub(crate) fn release(v: Site, c: ClientId) -> Effect
     requires { ⌜ CanonicalQueue (v .slot .agent .queue) ⌝ }
     ensures { λ r. ⌜ verdictOf r ≡ clientReleases v c ⌝ }
 {

@@ -50,14 +50,14 @@ ghost use Rattle.rules.specs.Effects.{verdictOf};
 ghost use Rattle.rules.specs.Admits.{Room, admitsOne, admits, admission};
 
 // A shared agent is installed, and its queue's waiters are gone through: the holders with those who joined, who stays in the queue, who left it.
-pub struct Admission {
+struct Admission {
     pub holders: [bool; CLIENTS],
     pub staying: Queue,
     pub admitted: Queue,
 }
 
 // A shared waiter joins the holders; another stays.
-pub fn admit(mut t: Admission, w: Waiter) -> Admission
+fn admit(mut t: Admission, w: Waiter) -> Admission
     requires { ⌜ Room t 1 ⌝ }
     ensures { λ r. ⌜ r ≡ admitsOne t w ⌝ }
 {
@@ -77,7 +77,7 @@ pub fn admit(mut t: Admission, w: Waiter) -> Admission
     }
 }
 
-pub fn admit_all(s: Admission, a: [Waiter; QUEUE_CAPACITY], n: usize) -> Admission
+fn admit_all(s: Admission, a: [Waiter; QUEUE_CAPACITY], n: usize) -> Admission
     requires { ⌜ (n ≤ queueCapacity) × (Room s n) ⌝ }
     ensures { λ r. ⌜ r ≡ admits s (take n a) ⌝ }
 {
@@ -92,7 +92,7 @@ pub fn admit_all(s: Admission, a: [Waiter; QUEUE_CAPACITY], n: usize) -> Admissi
 }
 
 // The waiters of q, from the holders g on.
-pub fn admit_queue(g: [bool; CLIENTS], q: Queue) -> Admission
+fn admit_queue(g: [bool; CLIENTS], q: Queue) -> Admission
     requires { ⌜ CanonicalQueue q ⌝ }
     ensures { λ r. ⌜ r ≡ admission g (waiters q) ⌝ }
 {
@@ -106,7 +106,7 @@ pub fn admit_queue(g: [bool; CLIENTS], q: Queue) -> Admission
     admit_all(t, slots, q.len as usize)
 }
 
-pub fn install_shared(v: Site, c: ClientId, a: Agent) -> Effect
+fn install_shared(v: Site, c: ClientId, a: Agent) -> Effect
     requires { ⌜ CanonicalQueue (a .queue) ⌝ }
     ensures { λ r. ⌜ verdictOf r ≡ installs v c Shared a ⌝ }
 {
@@ -125,7 +125,7 @@ pub fn install_shared(v: Site, c: ClientId, a: Agent) -> Effect
     doing(with_slot(with_status(v, st), some_agent(b)), t)
 }
 
-pub fn install_exclusive(v: Site, c: ClientId, a: Agent) -> Effect
+fn install_exclusive(v: Site, c: ClientId, a: Agent) -> Effect
     requires { ⌜ CanonicalQueue (a .queue) ⌝ }
     ensures { λ r. ⌜ verdictOf r ≡ installs v c Exclusive a ⌝ }
 {
@@ -143,7 +143,7 @@ pub fn install_exclusive(v: Site, c: ClientId, a: Agent) -> Effect
     doing(w, no_packet())
 }
 
-pub fn install(v: Site, c: ClientId, m: Mode, a: Agent) -> Effect
+fn install(v: Site, c: ClientId, m: Mode, a: Agent) -> Effect
     requires { ⌜ CanonicalQueue (a .queue) ⌝ }
     ensures { λ r. ⌜ verdictOf r ≡ installs v c m a ⌝ }
 {
@@ -154,7 +154,7 @@ pub fn install(v: Site, c: ClientId, m: Mode, a: Agent) -> Effect
 }
 
 // The client goes back to the front of the agent's queue.
-pub fn queue_first(v: Site, mut a: Agent, c: ClientId, m: Mode) -> Effect
+fn queue_first(v: Site, mut a: Agent, c: ClientId, m: Mode) -> Effect
     requires { ⌜ CanonicalQueue (a .queue) ⌝ }
     ensures { λ r. ⌜ verdictOf r ≡ withRoom a c (does (withSlot v (someAgent (requeued a c m))) []) ⌝ }
 {
@@ -175,7 +175,7 @@ fn sent_back(p: Packet) -> Packet
 }
 
 // here: an agent is on the machine; x: the agent carried, or none.
-pub fn grant_arrives(v: Site, here: bool, x: AgentSlot, c: ClientId, m: Mode) -> Effect
+fn grant_arrives(v: Site, here: bool, x: AgentSlot, c: ClientId, m: Mode) -> Effect
     requires { ⌜ CanonicalQueue (x .agent .queue) ⌝ }
     ensures { λ r. ⌜ verdictOf r ≡ grantArrives here (x .present) v (x .agent) c m ⌝ }
 {
@@ -191,7 +191,7 @@ pub fn grant_arrives(v: Site, here: bool, x: AgentSlot, c: ClientId, m: Mode) ->
     }
 }
 
-pub fn rejected_grant_arrives(v: Site, here: bool, a: Agent, c: ClientId, m: Mode) -> Effect
+fn rejected_grant_arrives(v: Site, here: bool, a: Agent, c: ClientId, m: Mode) -> Effect
     requires { ⌜ CanonicalQueue (a .queue) ⌝ }
     ensures { λ r. ⌜ verdictOf r ≡ rejectedGrantArrives here v a c m ⌝ }
 {
@@ -203,7 +203,7 @@ pub fn rejected_grant_arrives(v: Site, here: bool, a: Agent, c: ClientId, m: Mod
 }
 
 // An ACQUIRE that the decider granted: its mark is counted in the agent's incarnation.
-pub fn marked_arrives(v: Site, a: Agent, c: ClientId) -> Effect
+fn marked_arrives(v: Site, a: Agent, c: ClientId) -> Effect
     ensures { λ r. ⌜ verdictOf r ≡ marked v a c ⌝ }
 {
     let m = a.mode;
@@ -217,7 +217,7 @@ pub fn marked_arrives(v: Site, a: Agent, c: ClientId) -> Effect
     }
 }
 
-pub fn unmarked_arrives(v: Site, a: Agent, c: ClientId, m: Mode) -> Effect
+fn unmarked_arrives(v: Site, a: Agent, c: ClientId, m: Mode) -> Effect
     requires { ⌜ CanonicalQueue (a .queue) ⌝ }
     ensures { λ r. ⌜ verdictOf r ≡ unmarked v a c m ⌝ }
 {
@@ -231,7 +231,7 @@ pub fn unmarked_arrives(v: Site, a: Agent, c: ClientId, m: Mode) -> Effect
     }
 }
 
-pub fn acquire_arrives(v: Site, p: Packet, c: ClientId, m: Mode, granted: bool) -> Effect
+fn acquire_arrives(v: Site, p: Packet, c: ClientId, m: Mode, granted: bool) -> Effect
     requires { ⌜ CanonicalQueue (v .slot .agent .queue) ⌝ }
     ensures { λ r. ⌜ verdictOf r ≡ acquireArrives (v .slot .present) v (v .slot .agent) p c m granted ⌝ }
 {
@@ -247,7 +247,7 @@ pub fn acquire_arrives(v: Site, p: Packet, c: ClientId, m: Mode, granted: bool) 
     }
 }
 
-pub fn release_arrives(v: Site, p: Packet, c: ClientId) -> Effect
+fn release_arrives(v: Site, p: Packet, c: ClientId) -> Effect
     requires { ⌜ CanonicalQueue (v .slot .agent .queue) ⌝ }
     ensures { λ r. ⌜ verdictOf r ≡ releaseArrives v p c ⌝ }
 {
@@ -260,7 +260,7 @@ pub fn release_arrives(v: Site, p: Packet, c: ClientId) -> Effect
 }
 
 // A rejected FREE: the carried agent x is installed as carried.
-pub fn free_arrives(v: Site, here: bool, x: AgentSlot) -> Effect
+fn free_arrives(v: Site, here: bool, x: AgentSlot) -> Effect
     ensures { λ r. ⌜ verdictOf r ≡ freeArrives here v x ⌝ }
 {
     if here {
@@ -271,7 +271,7 @@ pub fn free_arrives(v: Site, here: bool, x: AgentSlot) -> Effect
     }
 }
 
-pub fn arrive(m: Message, v: Site, p: Packet) -> Effect
+fn arrive(m: Message, v: Site, p: Packet) -> Effect
     requires { ⌜ (CanonicalQueue (v .slot .agent .queue)) × (CanonicalQueue (p .carried .agent .queue)) ⌝ }
     ensures { λ r. ⌜ verdictOf r ≡ arrives m v p ⌝ }
 {
@@ -293,7 +293,7 @@ pub fn arrive(m: Message, v: Site, p: Packet) -> Effect
     }
 }
 
-pub fn at_machine(v: Site, p: Packet) -> Effect
+pub(crate) fn at_machine(v: Site, p: Packet) -> Effect
     requires { ⌜ (CanonicalQueue (v .slot .agent .queue)) × (CanonicalQueue (p .carried .agent .queue)) ⌝ }
     ensures { λ r. ⌜ verdictOf r ≡ atMachine v p ⌝ }
 {

@@ -1,4 +1,4 @@
-// A rule's effect judged, and carried out. Rules only say what a step does; the state is written here and nowhere else, so that it is copied for an
+// A rule's effect planned, and carried out. Rules only say what a step does; the state is written here and nowhere else, so that it is copied for an
 // accepted step, and not for each rule on the way or for a refusal.
 use crate::effect::Effect;
 use crate::effect::Sends;
@@ -53,7 +53,7 @@ fn of_slots(a: [Waiter; QUEUE_CAPACITY], n: u8) -> u8
     }
 }
 
-fn lay_packets(a: Slots, n: usize, k: u8, p: Packet, q: Packet) -> Slots
+fn write_packets(a: Slots, n: usize, k: u8, p: Packet, q: Packet) -> Slots
     requires { ⌜ n + length (take k (p ∷ q ∷ [])) ≤ wireCapacity ⌝ }
     ensures { λ r. ⌜ r ≡ sets a n (take k (p ∷ q ∷ [])) ⌝ }
 {
@@ -67,7 +67,7 @@ fn lay_packets(a: Slots, n: usize, k: u8, p: Packet, q: Packet) -> Slots
     b
 }
 
-fn lay_grants(a: Slots, n: usize, ws: [Waiter; QUEUE_CAPACITY], m: usize) -> Slots
+fn write_grants(a: Slots, n: usize, ws: [Waiter; QUEUE_CAPACITY], m: usize) -> Slots
     requires { ⌜ (m ≤ queueCapacity) × (n + m ≤ wireCapacity) ⌝ }
     ensures { λ r. ⌜ r ≡ sets a n (map grantOf (take m ws)) ⌝ }
 {
@@ -107,8 +107,8 @@ fn post(w: Wire, t: Sends) -> Wire
     let ws = q.slots;
     let k = of_two(t.count);
     let m = of_slots(ws, q.len);
-    let b = lay_packets(a, n as usize, t.count, t.first, t.second);
-    let g = lay_grants(b, (n + k) as usize, ws, m as usize);
+    let b = write_packets(a, n as usize, t.count, t.first, t.second);
+    let g = write_grants(b, (n + k) as usize, ws, m as usize);
     Wire {
         slots: g,
         len: n + k + m,
@@ -138,17 +138,17 @@ fn apply(k: MachineId, u: ClientId, e: Effect, rest: Wire, s: LockState) -> Lock
 // A step before it is made: its answer and, where that accepts, the index of the packet that it takes off the wire, the machine and the client that it is about, and its effect.
 pub struct Plan {
     pub answer: Answer,
-    pub index: u8,
-    pub machine: MachineId,
-    pub client: ClientId,
-    pub effect: Effect,
+    pub(crate) index: u8,
+    pub(crate) machine: MachineId,
+    pub(crate) client: ClientId,
+    pub(crate) effect: Effect,
 }
 
 // An index past the wire's end: no packet is taken off.
-pub const NONE_OFF: u8 = WIRE_CAPACITY as u8;
+pub(crate) const NONE_OFF: u8 = WIRE_CAPACITY as u8;
 
 // Refusals 9 and 10; n packets stay on the wire.
-pub fn judge(k: MachineId, u: ClientId, e: Effect, i: u8, n: u8) -> Plan
+pub(crate) fn plan_effect(k: MachineId, u: ClientId, e: Effect, i: u8, n: u8) -> Plan
     requires { ⌜ n ≤ wireCapacity ⌝ }
     ensures { λ r. ⌜ ((s : LockState) → length (removed (packets (s .wire)) i) ≡ n → Plans r s (finish k u (verdictOf e) (removed (packets (s .wire)) i) s)) ⌝ }
 {

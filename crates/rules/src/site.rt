@@ -11,7 +11,7 @@ use parts::state::status_at;
 ghost use mathlib.Core.Path.{_≡_};
 ghost use Rattle.model.specs.Changes.{siteOf, withDecider, withSlot, withStatus};
 
-pub fn site_of(s: LockState, k: MachineId, c: ClientId) -> Site
+pub(crate) fn site_of(s: LockState, k: MachineId, c: ClientId) -> Site
     ensures { λ r. ⌜ r ≡ siteOf s k c ⌝ }
 {
     let d = s.decider;
@@ -27,21 +27,21 @@ pub fn site_of(s: LockState, k: MachineId, c: ClientId) -> Site
 }
 
 // ---- the site with one part written
-pub fn with_decider(mut v: Site, d: Decider) -> Site
+pub(crate) fn with_decider(mut v: Site, d: Decider) -> Site
     ensures { λ r. ⌜ r ≡ withDecider v d ⌝ }
 {
     v.decider = d;
     v
 }
 
-pub fn with_slot(mut v: Site, x: AgentSlot) -> Site
+pub(crate) fn with_slot(mut v: Site, x: AgentSlot) -> Site
     ensures { λ r. ⌜ r ≡ withSlot v x ⌝ }
 {
     v.slot = x;
     v
 }
 
-pub fn with_status(v: Site, st: Status) -> Site
+pub(crate) fn with_status(v: Site, st: Status) -> Site
     ensures { λ r. ⌜ r ≡ withStatus v st ⌝ }
 {
     let d = v.decider;

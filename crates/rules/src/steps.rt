@@ -1,4 +1,4 @@
-// The steps on one lock's state, planned: a rule's effect, judged.
+// The steps on one lock's state, as plans: a rule's effect with its answer.
 use crate::asking::acquire;
 use crate::decider::at_decider;
 use crate::effect::Effect;
@@ -7,7 +7,7 @@ use crate::leaving::release;
 use crate::machine::at_machine;
 use crate::plan::NONE_OFF;
 use crate::plan::Plan;
-use crate::plan::judge;
+use crate::plan::plan_effect;
 use crate::site::site_of;
 use model::Address;
 use model::ClientId;
@@ -33,7 +33,7 @@ pub fn plan_acquire(s: LockState, c: ClientId, m: Mode) -> Plan
     let k = machine_of(c);
     let v = site_of(s, k, c);
     let e = acquire(v, c, m);
-    judge(k, c, e, NONE_OFF, s.wire.len)
+    plan_effect(k, c, e, NONE_OFF, s.wire.len)
 }
 
 // A client that holds releases.
@@ -44,11 +44,11 @@ pub fn plan_release(s: LockState, c: ClientId) -> Plan
     let k = machine_of(c);
     let v = site_of(s, k, c);
     let e = release(v, c);
-    judge(k, c, e, NONE_OFF, s.wire.len)
+    plan_effect(k, c, e, NONE_OFF, s.wire.len)
 }
 
 // The machine and the client that a delivery is about.
-pub fn machine_at(to: Address) -> MachineId
+fn machine_at(to: Address) -> MachineId
     ensures { λ r. ⌜ r ≡ machineAt to ⌝ }
 {
     match to {
@@ -57,7 +57,7 @@ pub fn machine_at(to: Address) -> MachineId
     }
 }
 
-pub fn client_named(m: Message) -> ClientId
+fn client_named(m: Message) -> ClientId
     ensures { λ r. ⌜ r ≡ clientNamed m ⌝ }
 {
     match m {
@@ -73,7 +73,7 @@ pub fn client_named(m: Message) -> ClientId
 }
 
 // The packet p is delivered at its address.
-pub fn deliver(to: Address, v: Site, p: Packet) -> Effect
+fn deliver(to: Address, v: Site, p: Packet) -> Effect
     requires { ⌜ (CanonicalQueue (v .slot .agent .queue)) × (CanonicalQueue (p .carried .agent .queue)) ⌝ }
     ensures { λ r. ⌜ verdictOf r ≡ delivers to v p ⌝ }
 {
@@ -94,5 +94,5 @@ pub fn plan_deliver(s: LockState, i: u8) -> Plan
     let c = client_named(m);
     let v = site_of(s, k, c);
     let e = deliver(to, v, p);
-    judge(k, c, e, i, s.wire.len - 1)
+    plan_effect(k, c, e, i, s.wire.len - 1)
 }

@@ -11,7 +11,7 @@ returns c =
     let s = c .before .before .before .before .args .s in
     let h = c .before .before .before .before .pre .wire in
     let g = removed-none (packets (s .wire)) wireCapacity (omega (arith, length-packets (s .wire) h, h .short)) in
-    rw (c .before .acquire .ensures, c .before .before .site-of .ensures, c .before .before .before .machine-of .ensures, g) at (c .judge .ensures s (ap length g ∙ length-packets (s .wire) h))
+    rw (c .before .acquire .ensures, c .before .before .site-of .ensures, c .before .before .before .machine-of .ensures, g) at (c .plan-effect .ensures s (ap length g ∙ length-packets (s .wire) h))
 
 pub plan-acquire-spec : {M : Type 1} → statement M
 plan-acquire-spec = tie.close (tie.spec (λ c κs. search needs) (λ c κs. search needs) acquire-requires (λ c κs. search needs) returns)

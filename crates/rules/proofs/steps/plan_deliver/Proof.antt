@@ -17,7 +17,7 @@ returns c =
     let i = start .args .i in
     let l = length-packets (s .wire) (start .pre .0 .wire) in
     let e : length (removed (packets (s .wire)) i) ≡ s .wire .len - 1 = omega (arith, length-removed (packets (s .wire)) i (omega (arith, l, start .pre .1)), l) in
-    rw (c .before .before .deliver .ensures, c .before .before .before .site-of .ensures, c .before .before .before .before .client-named .ensures, c .before .before .before .before .before .machine-at .ensures, c .before .before .before .before .before .before .packet-at .ensures) at (c .judge .ensures s e)
+    rw (c .before .before .deliver .ensures, c .before .before .before .site-of .ensures, c .before .before .before .before .client-named .ensures, c .before .before .before .before .before .machine-at .ensures, c .before .before .before .before .before .before .packet-at .ensures) at (c .plan-effect .ensures s e)
 
 pub plan-deliver-spec : {M : Type 1} → statement M
 plan-deliver-spec = tie.close (tie.spec (λ c κs. search needs) (λ c κs. search needs) (λ c κs. search needs) (λ c κs. search needs) deliver-requires (λ c. search needs) (λ c κs. search needs) returns)

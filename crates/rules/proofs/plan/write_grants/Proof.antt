@@ -1,7 +1,7 @@
 use Rattle.rules.proofs.Base.{_≡_, _∙_, map, _+_, _-_, _≤_, arith, length, take, drop, length-set, sets, needs, blankWaiter, used-more, used-end}
 use Rattle.rules.proofs.Base.{grantOf, add-one, queueCapacity, wireCapacity}
-use Rattle.rules.proofs.plan.lay_grants.Statement.{statement}
-use Rattle.rules.proofs.plan.lay_grants.Tie as tie
+use Rattle.rules.proofs.plan.write_grants.Statement.{statement}
+use Rattle.rules.proofs.plan.write_grants.Tie as tie
 
 abbrev Inv-loop : tie.InvT-loop
 Inv-loop n m ws b₀ j₀ b j = (sets b (n + j) (map grantOf (drop j (take m ws))) ≡ sets b₀ n (map grantOf (take m ws))) × ((length b ≡ wireCapacity) × (j ≤ m))
@@ -33,5 +33,5 @@ returns c =
     let n : length (s .t3) ≡ queueCapacity = search needs in
     rw (used-end (s .t3) (s .m) (l .j) blankWaiter (omega arith) (omega arith)) at (l .inv .0)
 
-pub lay-grants-spec : {M : Type 1} → statement M
-lay-grants-spec = tie.close (tie.spec Inv-loop μ-loop loop-holds (λ c. search needs) (λ c. search needs) (λ c κs. search needs) (λ c. search needs) (λ c. search needs) (λ c. search needs) (λ c. search needs) (λ c. search needs) loop-again returns)
+pub write-grants-spec : {M : Type 1} → statement M
+write-grants-spec = tie.close (tie.spec Inv-loop μ-loop loop-holds (λ c. search needs) (λ c. search needs) (λ c κs. search needs) (λ c. search needs) (λ c. search needs) (λ c. search needs) (λ c. search needs) (λ c. search needs) loop-again returns)

@@ -1,6 +1,6 @@
 use Rattle.rules.proofs.Base.{arith, needs, packets, removed, finish-stuck, finish-full, plans-effect}
-use Rattle.rules.proofs.plan.judge.Statement.{statement}
-use Rattle.rules.proofs.plan.judge.Tie as tie
+use Rattle.rules.proofs.plan.plan_effect.Statement.{statement}
+use Rattle.rules.proofs.plan.plan_effect.Tie as tie
 
 add-if2 : tie.Need-add-if2
 add-if2 c = omega (arith, c .sent-count .ensures .0, c .before .before .pre)
@@ -16,5 +16,5 @@ returns-2 c =
 returns-3 : tie.Need-returns-3
 returns-3 c = λ s l. rw (← finish-stuck (c .before .before .args .k) (c .before .before .args .u) (c .before .before .args .e) (removed (packets (s .wire)) (c .before .before .args .i)) s (c .before .if1 .left)) (c .refuse2 .ensures s)
 
-pub judge-spec : {M : Type 1} → statement M
-judge-spec = tie.close (tie.spec (λ c κs. search needs) add-if2 (λ c. search needs) (λ c κs. search needs) (λ c κs. search needs) returns returns-2 returns-3)
+pub plan-effect-spec : {M : Type 1} → statement M
+plan-effect-spec = tie.close (tie.spec (λ c κs. search needs) add-if2 (λ c. search needs) (λ c κs. search needs) (λ c κs. search needs) returns returns-2 returns-3)

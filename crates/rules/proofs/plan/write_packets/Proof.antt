@@ -1,6 +1,6 @@
 use Rattle.rules.proofs.Base.{_∙_, [], _∷_, ⊎-elim, arith, needs, add-one, take-all, some-of-two, all-of-two, lays-none, lays-one}
-use Rattle.rules.proofs.plan.lay_packets.Statement.{statement}
-use Rattle.rules.proofs.plan.lay_packets.Tie as tie
+use Rattle.rules.proofs.plan.write_packets.Statement.{statement}
+use Rattle.rules.proofs.plan.write_packets.Tie as tie
 
 array-set-from-b : tie.Need-array-set-from-b
 array-set-from-b c =
@@ -28,5 +28,5 @@ returns-2 c =
     (λ w. w .1 ∙ lays-none (s .a) (s .n) (s .k) (s .p) (s .q) (omega (arith, w .0 .left)))
     (c .before .if1 .came)
 
-pub lay-packets-spec : {M : Type 1} → statement M
-lay-packets-spec = tie.close (tie.spec (λ c. search needs) array-set-from-b (λ c. search needs) (λ c. search needs) array-set-from-b-2 returns returns-2)
+pub write-packets-spec : {M : Type 1} → statement M
+write-packets-spec = tie.close (tie.spec (λ c. search needs) array-set-from-b (λ c. search needs) (λ c. search needs) array-set-from-b-2 returns returns-2)
