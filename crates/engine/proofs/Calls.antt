@@ -14,8 +14,8 @@ unfoldable pub use Rattle.model.specs.Refusals.{first}
 pub use Rattle.model.specs.Calls.{isIdle, isHolding}
 pub use Rattle.laws.specs.Shapes.{length-packets}
 pub use Rattle.laws.specs.Formed.{ready, lock-formed}
-unfoldable pub use Rattle.engine.specs.Within.{stepUnless, acquireWithin, releaseWithin, deliverWithin, callWithin}
+unfoldable pub use Rattle.engine.specs.LockCalls.{stepUnless, acquireOn, releaseOn, deliverOn, callOn}
 unfoldable pub use Rattle.model.specs.Calls.{perform}
-pub use Rattle.engine.specs.Within.{in-range, first-no, lock-read, perform-accepts, perform-refuses, perform-malformed, perform-range}
+pub use Rattle.engine.specs.LockCalls.{in-range, first-no, lock-read, perform-accepts, perform-refuses, perform-malformed, perform-range}
 pub use Rattle.rules.specs.Plans.{carriedOut, plan-accepts, plan-refuses}
 pub use Rattle.engine.specs.Names.{LockState}

@@ -18,7 +18,7 @@ ghost use mathlib.Core.List.{[]};
 ghost use Rattle.model.specs.States.{wireOf, freshLock};
 ghost use Rattle.model.specs.Calls.{refusing};
 
-pub fn empty_wire() -> Wire
+fn empty_wire() -> Wire
     ensures { λ r. ⌜ r ≡ wireOf [] ⌝ }
 {
     let p = blank_packet();
@@ -28,7 +28,7 @@ pub fn empty_wire() -> Wire
     }
 }
 
-pub fn fresh_lock() -> LockState
+pub(crate) fn fresh_lock() -> LockState
     ensures { λ r. ⌜ r ≡ freshLock ⌝ }
 {
     let d = unowned();
@@ -45,7 +45,7 @@ pub fn fresh_lock() -> LockState
     }
 }
 
-pub fn refuse_call(n: Refusal, x: Cluster) -> Outcome
+pub(crate) fn refuse_call(n: Refusal, x: Cluster) -> Outcome
     ensures { λ r. ⌜ r ≡ refusing n x ⌝ }
 {
     Outcome {

@@ -1,7 +1,7 @@
 // The drain of one lock's state. Each phase makes its steps in a loop and only then hands over to the other: a call for each step
 // would not fit the stack.
 use crate::formed::well_formed;
-use crate::within::is_holding;
+use crate::lock_calls::is_holding;
 use model::ALLOWANCE;
 use model::Answer;
 use model::CLIENTS;
@@ -13,23 +13,25 @@ use model::LOCKS;
 use model::LockId;
 use model::LockState;
 use model::Refusal;
+use rules::plan::Plan;
 use rules::plan::carry_out;
 use rules::steps::plan_deliver;
 use rules::steps::plan_release;
 ghost use mathlib.Core.Path.{_≡_};
-ghost use mathlib.Core.Bool.{true};
-ghost use Prim.Native.Nat.{_+_, _<_, _≤_};
+ghost use mathlib.Core.Bool.{true, false};
+ghost use Prim.Native.Nat.{_<_};
 ghost use Rattle.model.specs.States.{locks};
-ghost use Rattle.model.specs.WellFormed.{lockFormed, wellFormed};
-ghost use Rattle.model.specs.Drain.{allowance, drainRefused, drain};
+ghost use Rattle.model.specs.WellFormed.{wellFormed};
+ghost use Rattle.model.specs.Drain.{drainRefused, drain};
 ghost use Rattle.engine.specs.Names.{LockId};
-ghost use Rattle.engine.specs.Sweep.{swept, sweep, Legged, holderFrom};
+ghost use Rattle.engine.specs.DrainState.{Open, Planned, Progress, endedWith, drainOn, holderFrom};
 
-// What the drain of one lock's state gives.
-pub struct Swept {
-    pub answer: Answer,
-    pub count: u16,
-    pub state: LockState,
+// How far the drain of one lock's state came: the steps that are left and, where it has ended, its answer.
+pub(crate) struct Draining {
+    pub(crate) ended: bool,
+    pub(crate) answer: Answer,
+    pub(crate) left: u16,
+    pub(crate) state: LockState,
 }
 
 // The number of the first client that holds, or the number past the last.
@@ -48,122 +50,90 @@ fn first_holder(a: [ClientState; CLIENTS]) -> u8
     j
 }
 
-// How far a phase came: it goes on in the other phase, or ends with the answer.
-pub struct Leg {
-    pub goes_on: bool,
-    pub answer: Answer,
-    pub left: u16,
-    pub count: u16,
-    pub state: LockState,
+fn end_with(d: Draining, a: Answer) -> Draining
+    ensures { λ r. ⌜ r ≡ endedWith a d ⌝ }
+{
+    let s = d.state;
+    Draining {
+        ended: true,
+        answer: a,
+        left: d.left,
+        state: s,
+    }
 }
 
-fn leg_of(goes_on: bool, answer: Answer, left: u16, count: u16, state: LockState) -> Leg
-    ensures { λ r. ⌜ r ≡ record { «goes_on» = «goes_on»; answer = answer; left = left; count = count; state = state } ⌝ }
+// The drain's next step, planned as p, is made; with no step left, or where the plan refuses, the drain ends.
+fn make_step(mut d: Draining, p: Plan) -> Draining
+    requires { ⌜ (Open d) × (Planned (d .state) p) ⌝ }
+    ensures { λ r. ⌜ (Progress d r) × (r .ended ≡ false → r .left < d .left) ⌝ }
 {
-    Leg {
-        goes_on,
-        answer,
-        left,
-        count,
-        state,
+    if d.left == 0 {
+        return end_with(d, Answer::Refused(Refusal::NotQuiescent));
+    }
+    let a = p.answer;
+    match a {
+        Answer::Accepted => {
+            d.state = carry_out(p, d.state);
+            d.left -= 1;
+            d
+        }
+        Answer::Refused(r) => end_with(d, Answer::Refused(r)),
     }
 }
 
 // Delivers index 0 until the wire is empty.
-fn deliver_all(left: u16, n: u16, s: LockState) -> Leg
-    requires { ⌜ (lockFormed s ≡ true) × (n + left ≤ allowance) ⌝ }
-    ensures { λ r. ⌜ ((l : LockId) → Legged left n l s r) × (r .«goes_on» ≡ true → r .state .wire .len ≡ 0) ⌝ }
+fn deliver_all(start: Draining) -> Draining
+    requires { ⌜ Open start ⌝ }
+    ensures { λ r. ⌜ (Progress start r) × (r .ended ≡ false → r .state .wire .len ≡ 0) ⌝ }
 {
-    let mut t = s;
-    let mut k = left;
-    let mut m = n;
-    while 0 < t.wire.len {
-        if k == 0 {
-            return leg_of(false, Answer::Refused(Refusal::NotQuiescent), k, m, t);
+    let mut d = start;
+    while 0 < d.state.wire.len {
+        let p = plan_deliver(d.state, 0);
+        d = make_step(d, p);
+        if d.ended {
+            return d;
         }
-        let p = plan_deliver(t, 0);
-        let a = p.answer;
-        match a {
-            Answer::Accepted => {}
-            Answer::Refused(r) => {
-                return leg_of(false, Answer::Refused(r), k, m, t);
-            }
-        }
-        t = carry_out(p, t);
-        k -= 1;
-        m += 1;
     }
-    leg_of(true, Answer::Accepted, k, m, t)
+    d
 }
 
 // Releases the holding client of lowest number until a packet is sent or nobody holds.
-fn release_all(left: u16, n: u16, s: LockState) -> Leg
-    requires { ⌜ (lockFormed s ≡ true) × ((n + left ≤ allowance) × (s .wire .len ≡ 0)) ⌝ }
-    ensures { λ r. ⌜ ((l : LockId) → Legged left n l s r) × (r .«goes_on» ≡ true → r .left < left) ⌝ }
+fn release_all(start: Draining) -> Draining
+    requires { ⌜ (Open start) × (start .state .wire .len ≡ 0) ⌝ }
+    ensures { λ r. ⌜ (Progress start r) × (r .ended ≡ false → r .left < start .left) ⌝ }
 {
-    let mut t = s;
-    let mut k = left;
-    let mut m = n;
-    while t.wire.len == 0 {
-        let clients = t.clients;
+    let mut d = start;
+    while d.state.wire.len == 0 {
+        let clients = d.state.clients;
         let c = first_holder(clients);
         if CLIENTS as u8 <= c {
-            return leg_of(false, Answer::Accepted, k, m, t);
+            return end_with(d, Answer::Accepted);
         }
-        if k == 0 {
-            return leg_of(false, Answer::Refused(Refusal::NotQuiescent), k, m, t);
+        let p = plan_release(d.state, ClientId(c));
+        d = make_step(d, p);
+        if d.ended {
+            return d;
         }
-        let p = plan_release(t, ClientId(c));
-        let a = p.answer;
-        match a {
-            Answer::Accepted => {}
-            Answer::Refused(r) => {
-                return leg_of(false, Answer::Refused(r), k, m, t);
-            }
-        }
-        t = carry_out(p, t);
-        k -= 1;
-        m += 1;
     }
-    leg_of(true, Answer::Accepted, k, m, t)
-}
-
-fn ended(answer: Answer, count: u16, state: LockState) -> Swept
-    ensures { λ r. ⌜ r ≡ swept answer count state ⌝ }
-{
-    Swept {
-        answer,
-        count,
-        state,
-    }
+    d
 }
 
 // Delivering hands over to releasing when the wire is empty.
-pub fn deliver_phase(left: u16, n: u16, s: LockState) -> Swept
-    requires { ⌜ (lockFormed s ≡ true) × (n + left ≤ allowance) ⌝ }
-    ensures { λ r. ⌜ ((l : LockId) → r ≡ sweep left n l s) ⌝ }
+fn deliver_phase(start: Draining) -> Draining
+    requires { ⌜ Open start ⌝ }
+    ensures { λ r. ⌜ ((l : LockId) → r ≡ drainOn l start) ⌝ }
 {
-    let g = deliver_all(left, n, s);
-    if g.goes_on {
-        release_phase(g.left, g.count, g.state)
-    } else {
-        let a = g.answer;
-        ended(a, g.count, g.state)
-    }
+    let d = deliver_all(start);
+    if d.ended { d } else { release_phase(d) }
 }
 
 // And back, with fewer steps left.
-pub fn release_phase(left: u16, n: u16, s: LockState) -> Swept
-    requires { ⌜ (lockFormed s ≡ true) × ((n + left ≤ allowance) × (s .wire .len ≡ 0)) ⌝ }
-    ensures { λ r. ⌜ ((l : LockId) → r ≡ sweep left n l s) ⌝ }
+fn release_phase(start: Draining) -> Draining
+    requires { ⌜ (Open start) × (start .state .wire .len ≡ 0) ⌝ }
+    ensures { λ r. ⌜ ((l : LockId) → r ≡ drainOn l start) ⌝ }
 {
-    let g = release_all(left, n, s);
-    if g.goes_on {
-        deliver_phase(g.left, g.count, g.state)
-    } else {
-        let a = g.answer;
-        ended(a, g.count, g.state)
-    }
+    let d = release_all(start);
+    if d.ended { d } else { deliver_phase(d) }
 }
 
 fn drain_refused(r: Refusal, x: Cluster) -> Drained
@@ -183,16 +153,22 @@ fn drain_lock(x: Cluster, l: LockId) -> Drained
 {
     let i = l.0 as usize;
     let s = x.locks[i];
-    let w = deliver_phase(ALLOWANCE, 0, s);
-    let a = w.answer;
+    let d = deliver_phase(Draining {
+        ended: false,
+        answer: Answer::Accepted,
+        left: ALLOWANCE,
+        state: s,
+    });
+    let count = ALLOWANCE - d.left;
+    let a = d.answer;
     match a {
         Answer::Accepted => {
-            let t = w.state;
+            let t = d.state;
             let mut y = x;
             y.locks[i] = t;
             Drained {
                 answer: Answer::Accepted,
-                count: w.count,
+                count,
                 cluster: y,
             }
         }

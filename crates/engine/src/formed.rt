@@ -41,7 +41,7 @@ fn is_exclusive(m: Mode) -> bool
     }
 }
 
-pub fn is_blank_waiter(w: Waiter) -> bool
+fn is_blank_waiter(w: Waiter) -> bool
     ensures { λ r. ⌜ r ≡ isBlankWaiter w ⌝ }
 {
     let c = w.client;
@@ -76,7 +76,7 @@ fn no_holder(h: [bool; CLIENTS]) -> bool
     ok
 }
 
-pub fn is_blank_agent(a: Agent) -> bool
+fn is_blank_agent(a: Agent) -> bool
     ensures { λ r. ⌜ r ≡ isBlankAgent a ⌝ }
 {
     let m = a.mode;
@@ -113,7 +113,7 @@ fn to_decider(t: Address) -> bool
     }
 }
 
-pub fn is_blank_packet(p: Packet) -> bool
+fn is_blank_packet(p: Packet) -> bool
     ensures { λ r. ⌜ r ≡ isBlankPacket p ⌝ }
 {
     let m = p.message;
@@ -126,7 +126,7 @@ pub fn is_blank_packet(p: Packet) -> bool
 }
 
 // ---- a queue and an agent
-pub fn shaped_waiters(a: [Waiter; QUEUE_CAPACITY], n: usize) -> bool
+fn shaped_waiters(a: [Waiter; QUEUE_CAPACITY], n: usize) -> bool
     ensures { λ r. ⌜ r ≡ shaped queueCapacity isBlankWaiter a n ⌝ }
 {
     let mut ok = n <= QUEUE_CAPACITY;
@@ -141,7 +141,7 @@ pub fn shaped_waiters(a: [Waiter; QUEUE_CAPACITY], n: usize) -> bool
 }
 
 // One pass over the first n, with the set of the clients seen so far.
-pub fn waiters_formed(a: [Waiter; QUEUE_CAPACITY], n: usize) -> bool
+fn waiters_formed(a: [Waiter; QUEUE_CAPACITY], n: usize) -> bool
     requires { ⌜ n ≤ queueCapacity ⌝ }
     ensures { λ r. ⌜ r ≡ (all waiterInRange (take n a) && distinct (take n a)) ⌝ }
 {
@@ -163,7 +163,7 @@ pub fn waiters_formed(a: [Waiter; QUEUE_CAPACITY], n: usize) -> bool
     true
 }
 
-pub fn queue_formed(q: Queue) -> bool
+fn queue_formed(q: Queue) -> bool
     ensures { λ r. ⌜ r ≡ queueFormed q ⌝ }
 {
     let a = q.slots;
@@ -182,7 +182,7 @@ fn has_all_holders(h: [bool; CLIENTS]) -> bool
     true
 }
 
-pub fn agent_formed(a: Agent) -> bool
+fn agent_formed(a: Agent) -> bool
     ensures { λ r. ⌜ r ≡ agentFormed a ⌝ }
 {
     let h = a.holders;
@@ -191,7 +191,7 @@ pub fn agent_formed(a: Agent) -> bool
     holders & queue
 }
 
-pub fn slot_formed(x: AgentSlot) -> bool
+fn slot_formed(x: AgentSlot) -> bool
     ensures { λ r. ⌜ r ≡ slotFormed x ⌝ }
 {
     if x.present {
@@ -202,7 +202,7 @@ pub fn slot_formed(x: AgentSlot) -> bool
 }
 
 // ---- a packet
-pub fn address_in_range(t: Address) -> bool
+fn address_in_range(t: Address) -> bool
     ensures { λ r. ⌜ r ≡ addressInRange t ⌝ }
 {
     match t {
@@ -236,7 +236,7 @@ fn free_formed(carries: bool, rejected: bool, t: Address) -> bool
     }
 }
 
-pub fn message_formed(m: Message, carries: bool, rejected: bool, t: Address) -> bool
+fn message_formed(m: Message, carries: bool, rejected: bool, t: Address) -> bool
     ensures { λ r. ⌜ r ≡ messageFormed m carries rejected t ⌝ }
 {
     match m {
@@ -251,7 +251,7 @@ pub fn message_formed(m: Message, carries: bool, rejected: bool, t: Address) -> 
     }
 }
 
-pub fn packet_formed(p: Packet) -> bool
+fn packet_formed(p: Packet) -> bool
     ensures { λ r. ⌜ r ≡ packetFormed p ⌝ }
 {
     let m = p.message;
@@ -264,7 +264,7 @@ pub fn packet_formed(p: Packet) -> bool
 }
 
 // ---- a wire
-pub fn shaped_packets(a: [Packet; WIRE_CAPACITY], n: usize) -> bool
+fn shaped_packets(a: [Packet; WIRE_CAPACITY], n: usize) -> bool
     ensures { λ r. ⌜ r ≡ shaped wireCapacity isBlankPacket a n ⌝ }
 {
     let mut ok = n <= WIRE_CAPACITY;
@@ -278,7 +278,7 @@ pub fn shaped_packets(a: [Packet; WIRE_CAPACITY], n: usize) -> bool
     ok
 }
 
-pub fn packets_formed(a: [Packet; WIRE_CAPACITY], n: usize) -> bool
+fn packets_formed(a: [Packet; WIRE_CAPACITY], n: usize) -> bool
     requires { ⌜ n ≤ wireCapacity ⌝ }
     ensures { λ r. ⌜ r ≡ all packetFormed (take n a) ⌝ }
 {
@@ -293,7 +293,7 @@ pub fn packets_formed(a: [Packet; WIRE_CAPACITY], n: usize) -> bool
     ok
 }
 
-pub fn wire_formed(w: Wire) -> bool
+fn wire_formed(w: Wire) -> bool
     ensures { λ r. ⌜ r ≡ wireFormed w ⌝ }
 {
     let a = w.slots;
@@ -306,7 +306,7 @@ pub fn wire_formed(w: Wire) -> bool
 }
 
 // ---- a lock and the cluster
-pub fn owner_in_range(o: Owner) -> bool
+fn owner_in_range(o: Owner) -> bool
     ensures { λ r. ⌜ r ≡ ownerInRange o ⌝ }
 {
     match o {
@@ -315,7 +315,7 @@ pub fn owner_in_range(o: Owner) -> bool
     }
 }
 
-pub fn slots_formed(a: [AgentSlot; MACHINES]) -> bool
+fn slots_formed(a: [AgentSlot; MACHINES]) -> bool
     ensures { λ r. ⌜ r ≡ (eqb (length a) machines && all slotFormed a) ⌝ }
 {
     let mut ok = true;
@@ -335,7 +335,7 @@ fn has_all_clients(a: [ClientState; CLIENTS]) -> bool
     true
 }
 
-pub fn lock_formed(s: LockState) -> bool
+fn lock_formed(s: LockState) -> bool
     ensures { λ r. ⌜ r ≡ lockFormed s ⌝ }
 {
     let d = s.decider;

@@ -1,10 +1,9 @@
 // The calls on a cluster. Each is, for every cluster and all arguments, the call of the model. A call tests the whole cluster once; runs of calls,
-// which know that a cluster stays well formed, take the steps on one lock in `within`.
+// which know that a cluster stays well formed, take the steps on one lock in `lock_calls`.
 use crate::cluster::fresh_lock;
 use crate::cluster::refuse_call;
-use crate::formed::well_formed;
-use crate::within::lock_of;
-use crate::within::plan_call;
+use crate::lock_calls::lock_of;
+use crate::lock_calls::plan_call;
 use model::Answer;
 use model::Call;
 use model::Cluster;
@@ -20,11 +19,12 @@ ghost use Rattle.model.specs.States.{fresh};
 ghost use Rattle.model.specs.Calls.{acquire, release, deliver, perform};
 
 mod cluster;
-pub mod draining;
-pub mod formed;
-pub mod within;
+mod draining;
+mod formed;
+pub mod lock_calls;
 
 pub use draining::drain;
+pub use formed::well_formed;
 
 pub fn fresh() -> Cluster
     ensures { λ r. ⌜ r ≡ fresh ⌝ }

@@ -5,8 +5,8 @@ use crate::text::room;
 use crate::text::text;
 use crate::text::write;
 use engine::fresh;
-use engine::within::call_within;
-use engine::within::lock_of;
+use engine::lock_calls::call_on;
+use engine::lock_calls::lock_of;
 use model::Answer;
 use model::Call;
 use model::LOCKS;
@@ -79,7 +79,7 @@ fn list_records(out: &mut [u8; 8192], start: usize, bytes: &[u8]) -> usize {
                 if l.0 < LOCKS as u8 {
                     let i = l.0 as usize;
                     let s = x.locks[i];
-                    let o = call_within(call, s);
+                    let o = call_on(call, s);
                     let a = o.answer;
                     let t = o.state;
                     x.locks[i] = t;

@@ -1,23 +1,23 @@
 -- Every step at a machine can be placed and keeps the invariant.
 use Rattle.theorems.specs.Names.{MachineId, ClientId, Mode, Exclusive, Shared, Owner, Unowned, Owned, Queue, Agent, AgentSlot, Address, ToDecider}
-use Rattle.theorems.specs.Names.{ToMachine, Message, Free, Acquire, Grant, Release, Packet, Waiting, Holding, LockState, _≡_, refl, Bool, true, false}
-use Rattle.theorems.specs.Names.{_&&_, not, List, [], _∷_, _++_, ℕ, _+_, _≤_, _<_, _%_, arith, length, getD, set, eqb, ltb, ne-eqb, ltb-true, isShared}
-use Rattle.theorems.specs.Names.{someAgent, listed, plain, queueOf, waiters, noAgent, cannot-place, does, Site, siteOf, withSlot, withStatus, changed}
-use Rattle.theorems.specs.Names.{joining, queuing, noRoom, withRoom, mayJoin, lists, leaves, next, sendsBack, requeued, installs, grantArrives}
-use Rattle.theorems.specs.Names.{rejectedGrantArrives, marked, unmarked, acquireArrives, releaseArrives, freeArrives, arrives, clientNamed, and-left}
-use Rattle.theorems.specs.Names.{and-right, waiters-of, sym, _∙_, true≢false, machines, clients, ownedShared, both, slotIn, inParts}
-use Rattle.theorems.specs.Tally.{flag, tally, tally-append, tally-at}
+use Rattle.theorems.specs.Names.{ToMachine, Message, Free, Acquire, Grant, Release, Packet, Holding, LockState, _≡_, refl, Bool, true, false, _&&_, not}
+use Rattle.theorems.specs.Names.{List, [], _∷_, ℕ, _+_, _≤_, _<_, arith, eqb, ltb, ltb-true, isShared, someAgent, listed, plain, queueOf, waiters}
+use Rattle.theorems.specs.Names.{noAgent, cannot-place, does, Site, siteOf, withSlot, withStatus, changed, joining, queuing, withRoom, mayJoin, lists}
+use Rattle.theorems.specs.Names.{leaves, next, sendsBack, requeued, installs, grantArrives, rejectedGrantArrives, marked, unmarked, acquireArrives}
+use Rattle.theorems.specs.Names.{releaseArrives, freeArrives, arrives, clientNamed, and-left, and-right, waiters-of, machines, clients, ownedShared}
+use Rattle.theorems.specs.Names.{slotIn, inParts, Waiter}
+use Rattle.theorems.specs.Tally.{tally, tally-at}
 use Rattle.theorems.specs.Weights.{statusAt, slotAt, weight, sameMode, one, hit, hitW, askM, queuedS, waitingP, markM, listedS, listedP, owedM, releaseM}
-use Rattle.theorems.specs.Weights.{releaseP, agentS, agentP, incarnationS, markAll, rejectedP, heads, vacantS, waitF, holdF, idleF, clash, ownedMode}
-use Rattle.theorems.specs.Weights.{ownedAt, few, fitsAway, fitsFree, fits, misfitP}
+use Rattle.theorems.specs.Weights.{releaseP, agentS, agentP, incarnationS, markAll, rejectedP, heads, vacantS, waitF, holdF, idleF, ownedMode, ownedAt}
+use Rattle.theorems.specs.Weights.{few, fitsHome, misfitS, fitsAway, fitsFree, fits, misfitP}
 use Rattle.theorems.specs.Invariant.{Inv}
 use Rattle.theorems.specs.InvariantStep.{Keeps, Split, untold, keep, keep-calm, vacancy-by, framed, still}
-use Rattle.theorems.specs.Facts.{fit, Zero, absent, list-on, came-fits, Plain, Request, acquire-of, release-of, plain-request, Away, away-of, Home}
-use Rattle.theorems.specs.Facts.{home-fits, slot-home, few-less, status-move, in-slot, clash-none, shared-owner, none-away, rejected-carries-one}
-use Rattle.theorems.specs.Facts.{none-rejected, none-vacant, one-self, lists-one, asker-unlisted, joins-fits, joins-heads, few-zero, flag-le, drop-last}
-use Rattle.theorems.specs.Facts.{grant-waits, unshared}
+use Rattle.theorems.specs.Facts.{fit, Zero, absent, came-fits, Plain, Request, acquire-of, release-of, plain-request, Away, away-of, Home, home-fits}
+use Rattle.theorems.specs.Facts.{slot-home, few-less, status-move, modes-told, clash-none, shared-owner, none-away, rejected-carries-one, none-rejected}
+use Rattle.theorems.specs.Facts.{none-vacant, one-self, lists-one, asker-unlisted, joins, joins-fits, joins-listed, joins-busy, few-zero, flag-le}
+use Rattle.theorems.specs.Facts.{drop-last, grant-waits, unshared}
 use Rattle.theorems.specs.Sent.{Good, good-by, may-join, request-any, no-marked, no-free, no-early, impossible, keep-on, shared-is}
-use Rattle.theorems.specs.Waiters.{room-waiting}
+use Rattle.theorems.specs.Waiters.{room-waiting, queued-one, good-room}
 use Rattle.theorems.specs.Leaving.{Leaver, keep-leaves}
 use Rattle.theorems.specs.Install.{keep-installs}
 
@@ -42,21 +42,19 @@ module _ (r : LockState) (rest : List Packet) (i : Inv r) (k : MachineId) (kk : 
       mode-shared (Owned Exclusive k) Shared e f = e
       mode-shared (Owned Shared k) m e f = f
 
-  told-waits : statusAt r (c .0) ≡ Waiting n
-  told-waits = grant-waits _ i refl sp
-
   pub keep-told : Keeps r k c rest (withStatus (siteOf r k c) (Holding n)) []
   unfolding tally askM markM owedM releaseM markAll queuedS listedS agentS incarnationS one hit waitF holdF idleF
   keep-told =
+      let move = status-move i told-below (grant-waits _ i refl sp) (Holding n) in
       keep i
       (record {
         frame = framed sp kk refl refl;
-        waits = λ d m. omega (arith, status-move i told-below told-waits (Holding n) (waitF m) d);
-        holds = λ d. omega (arith, status-move i told-below told-waits (Holding n) holdF d);
-        rels = λ d. omega (arith, i .rels d, sp .parts (releaseP d), status-move i told-below told-waits (Holding n) idleF d);
+        waits = λ d m. omega (arith, move (waitF m) d);
+        holds = λ d. omega (arith, move holdF d);
+        rels = λ d. omega (arith, i .rels d, sp .parts (releaseP d), move idleF d);
         agent = omega arith;
         incs = λ x h. omega (arith, h);
-        modes = λ d. omega (arith, i .modes d, rw (clash-none (r .decider .owner) n told-mode) at (status-move i told-below told-waits (Holding n) (clash (r .decider .owner)) d));
+        modes = modes-told c (Holding n) i told-below (clash-none (r .decider .owner) n told-mode);
         fitting = refl;
         slot = i .homes (k .0);
         reach = refl;
@@ -74,105 +72,91 @@ module _ (r : LockState) (rest : List Packet) (i : Inv r) (k : MachineId) (kk : 
   home = slot-home r (k .0) h i es
 
   -- a marked one
-  keep-marked : h .mode ≡ Shared → Split r (asking true ∷ []) rest
-      → Keeps r k c rest (withSlot (siteOf r k c) (someAgent (changed h (set (h .holders) (c .0) true) (h .queue) (next (h .incarnation))))) []
-  unfolding tally askM markM owedM releaseM markAll queuedS listedS agentS incarnationS vacantS one weight
+  keep-marked : h .mode ≡ Shared → Split r (asking true ∷ []) rest → Keeps r k c rest (withSlot (siteOf r k c) (joins h c (next (h .incarnation)))) []
+  unfolding tally askM markM owedM releaseM markAll queuedS listedS agentS incarnationS vacantS weight
   keep-marked sh sp =
       let pl : Plain c (slotIn x p) = plain-request i acquire-of sp in
       let z : Zero (slotIn x p) = pl .none in
-      let cl : c .0 < length (h .holders) = omega (arith, home .sized, pl .below) in
-      let un : flag (getD (h .holders) (c .0) false) ≡ 0 =
-      omega (arith, lists-one r i (c .0), sp .parts (listedP (c .0)), rw es at (tally-at (listedS (c .0)) noAgent (r .agents) (k .0) (omega (arith, i .all-machines))), one-self c) in
-      let sm : (h .incarnation + 1) % 256 < 256 = omega arith in
+      let new : ℕ = next (h .incarnation) in
+      let un : tally (listedS (c .0)) (r .agents) ≡ 0 = omega (arith, lists-one r i (c .0), sp .parts (listedP (c .0)), one-self c) in
+      let busy = none-vacant r i (k .0) kk h es (joins h c new) (joins-busy i kk es c (pl .below) new) refl in
       keep-calm i
       (record {
         frame = framed sp kk es refl;
         status = refl;
         waits = λ d m. omega (arith, z .queuedS d m);
-        holds = λ d. omega (arith, z .listedS d, list-on (h .holders) (c .0) d cl un);
+        holds = λ d. omega (arith, z .listedS d, joins-listed i kk es c (pl .below) new un d);
         rels = λ d. omega arith;
         agent = omega (arith, z .agentS);
         incs = λ x e. omega (arith, e, z .incarnationS);
         fitting = refl;
-        slot = home-fits (r .decider .owner) (k .0) _ (joins-fits h (r .decider .owner) (k .0) (c .0) _ home sh sm);
+        slot = joins-fits i kk es c (pl .below) new sh (omega arith);
         reach = refl;
-        vacancy =
-            omega (
-              arith,
-              none-rejected r i (k .0) kk h es,
-              sp .parts rejectedP,
-              none-vacant r i (k .0) kk h es (someAgent (changed h (set (h .holders) (c .0) true) (h .queue) (next (h .incarnation))))
-                  (rw (ne-eqb _ 0 (joins-heads (h .holders) (c .0) cl))) refl,
-            );
+        vacancy = omega (arith, none-rejected r i (k .0) kk h es, sp .parts rejectedP, busy);
       })
 
   -- an unmarked one, agent and request both shared
   keep-joins : h .mode ≡ Shared → n ≡ Shared → Split r (asking false ∷ []) rest
       → Keeps r k c rest (withSlot (siteOf r k c) (someAgent (joining h c))) (plain (Grant c n) ToDecider ∷ [])
-  unfolding tally askM markM owedM releaseM markAll queuedS listedS agentS incarnationS vacantS one misfitP fits noAgent
+  unfolding tally weight askM markM owedM releaseM markAll queuedS listedS agentS incarnationS vacantS misfitP fits noAgent
   keep-joins sh ns sp =
       let pl : Plain c (slotIn x p) = plain-request i acquire-of sp in
       let z : Zero (slotIn x p) = pl .none in
-      let cl : c .0 < length (h .holders) = omega (arith, home .sized, pl .below) in
-      let un : flag (getD (h .holders) (c .0) false) ≡ 0 = omega (arith, asker-unlisted _ i refl sp, in-slot r (listedP (c .0)) (listedS (c .0)) (k .0) (someAgent h) i kk es) in
+      let un : tally (listedS (c .0)) (r .agents) ≡ 0 = omega (arith, asker-unlisted _ i refl sp) in
+      let busy = joins-busy i kk es c (pl .below) (h .incarnation) in
       let os : ownedShared (r .decider .owner) ≡ true = shared-owner (r .decider .owner) (rw sh at (home .mode)) in
       keep-calm i
       (record {
         frame = framed sp kk es refl;
         status = refl;
         waits = λ d m. omega (arith, z .queuedS d m);
-        holds = λ d. omega (arith, z .listedS d, list-on (h .holders) (c .0) d cl un);
+        holds = λ d. omega (arith, z .listedS d, joins-listed i kk es c (pl .below) (h .incarnation) un d);
         rels = λ d. omega arith;
         agent = omega (arith, z .agentS);
         incs = λ x e. omega (arith, e, z .incarnationS);
         fitting = rw (pl .named, os, ns);
-        slot = home-fits (r .decider .owner) (k .0) _ (joins-fits h (r .decider .owner) (k .0) (c .0) _ home sh (home .small));
+        slot = joins-fits i kk es c (pl .below) (h .incarnation) sh (home .small);
         reach = refl;
-        vacancy =
-            vacancy-by (someAgent (joining h c)) (plain (Grant c n) ToDecider ∷ []) i sp kk es
-            (rw (ne-eqb (tally flag (set (h .holders) (c .0) true)) 0 (joins-heads (h .holders) (c .0) cl)) (omega arith));
+        vacancy = vacancy-by (someAgent (joining h c)) (plain (Grant c n) ToDecider ∷ []) i sp kk es (omega (arith, busy));
       })
 
   -- else it joins the queue's end, which has room
-  asker-room : Split r (asking false ∷ []) rest → noRoom h c ≡ false
-  asker-room sp =
-      room-waiting r i (waiters (h .queue)) (λ d m. omega (arith, in-line d m)) c n (plain-request i acquire-of sp .below) in-line
-    where
-      in-line : (d : ℕ) (m : Mode) → hit d m c n + tally (hitW d m) (waiters (h .queue)) ≤ waitF m (statusAt r d)
-      in-line d m =
-          unfold weight tally askM queuedS in
-          omega (arith, i .waits d m, sp .parts (waitingP d m), rw es at (tally-at (queuedS d m) noAgent (r .agents) (k .0) (omega (arith, i .all-machines))))
-
   keep-queues : Split r (asking false ∷ []) rest → Keeps r k c rest (withSlot (siteOf r k c) (someAgent (queuing h c n))) []
-  unfolding tally askM markM owedM releaseM markAll queuedS listedS agentS incarnationS vacantS one
+  unfolding tally askM markM owedM releaseM markAll listedS agentS incarnationS vacantS misfitS fitsHome
   keep-queues sp =
-      let pl : Plain c (slotIn x p) = plain-request i acquire-of sp in
-      let z : Zero (slotIn x p) = pl .none in
+      let z : Zero (slotIn x p) = plain-request i acquire-of sp .none in
       keep-calm i
       (record {
         frame = framed sp kk es refl;
         status = refl;
-        waits = λ d m.
-            rw (waiters-of (waiters (h .queue) ++ record { client = c; mode = n } ∷ []))
-            (omega (arith, z .queuedS d m, tally-append (hitW d m) (waiters (h .queue)) (record { client = c; mode = n } ∷ [])));
+        waits = λ d m. omega (arith, z .queuedS d m, queued-one h c n d m);
         holds = λ d. omega (arith, z .listedS d);
         rels = λ d. omega arith;
         agent = omega (arith, z .agentS);
         incs = λ x e. omega (arith, e, z .incarnationS);
         fitting = refl;
-        slot = home-fits (r .decider .owner) (k .0) _ (record { at = home .at; mode = home .mode; sized = home .sized; few = home .few; small = home .small });
+        slot = rw es at (i .homes (k .0));
         reach = refl;
         vacancy = vacancy-by (someAgent (queuing h c n)) [] i sp kk es (omega arith);
       })
 
   good-queues : Split r (asking false ∷ []) rest → Good r k c rest (withRoom h c (does (withSlot (siteOf r k c) (someAgent (queuing h c n))) []))
-  good-queues sp =
-      good-by r k c rest (noRoom h c) cannot-place (does (withSlot (siteOf r k c) (someAgent (queuing h c n))) []) (λ q. true≢false (sym q ∙ asker-room sp)) (λ q. keep-queues sp)
+  unfolding weight tally askM queuedS
+  good-queues sp = good-room h (room-waiting r i (waiters (h .queue)) c n (plain-request i acquire-of sp .below) in-line) (keep-queues sp)
+    where
+      in-line : (d : ℕ) (m : Mode) → hit d m c n + tally (hitW d m) (waiters (h .queue)) ≤ waitF m (statusAt r d)
+      in-line d m =
+          let here = rw es at (tally-at (queuedS d m) noAgent (r .agents) (k .0) (omega (arith, i .all-machines))) in
+          omega (arith, i .waits d m, sp .parts (waitingP d m))
 
 -- ---- a rejected packet comes home: the agent is installed, q its queue
-module _ (r : LockState) (rest : List Packet) (i : Inv r) (k : MachineId) (kk : k .0 < machines) (old : AgentSlot) (es : slotAt r (k .0) ≡ old) (ab : old .present ≡ false) (p : Packet) where
+module _ (r : LockState) (rest : List Packet) (i : Inv r) (k : MachineId) (kk : k .0 < machines) (old : AgentSlot) (es : slotAt r (k .0) ≡ old)
+    (ab : old .present ≡ false) (p : Packet) where
   abbrev a : Agent
   a = p .carried .agent
+
+  abbrev o : Owner
+  o = r .decider .owner
 
   abbrev returns : Message → Packet
   returns m = inParts m (ToMachine k) true true p
@@ -180,13 +164,13 @@ module _ (r : LockState) (rest : List Packet) (i : Inv r) (k : MachineId) (kk : 
   back-home : (u : ClientId) (m : Message) (q : Queue) → Split r (returns m ∷ []) rest
       → ((d : ℕ) (n : Mode) → askM d n m + tally (hitW d n) (waiters (a .queue)) ≡ tally (hitW d n) (waiters q))
       → ((d : ℕ) → (markM d m ≡ 0) × (owedM d true m ≡ 0)) → markAll m ≡ 0
-      → (ownedAt (r .decider .owner) (k .0) && (ownedMode (r .decider .owner) (a .mode) && fitsAway a)) ≡ true
+      → (ownedAt o (k .0) && (ownedMode o (a .mode) && fitsAway a)) ≡ true
       → Keeps r k u rest (withSlot (siteOf r k u) (someAgent (changed a (a .holders) q (a .incarnation)))) []
   unfolding tally queuedS listedS agentS incarnationS vacantS
   back-home u m q sp ask no-m ma f =
       let z : Zero old = absent old ab in
-      let g : (ownedMode (r .decider .owner) (a .mode) && fitsAway a) ≡ true = and-right (ownedAt (r .decider .owner) (k .0)) _ f in
-      let aw : Away a = away-of a (and-right (ownedMode (r .decider .owner) (a .mode)) _ g) in
+      let g = and-right (ownedAt o (k .0)) (ownedMode o (a .mode) && fitsAway a) f in
+      let aw : Away a = away-of a (and-right (ownedMode o (a .mode)) _ g) in
       keep-calm i
       (record {
         frame = framed sp kk es refl;
@@ -198,44 +182,40 @@ module _ (r : LockState) (rest : List Packet) (i : Inv r) (k : MachineId) (kk : 
         incs = λ x e. omega (arith, e, z .incarnationS, ma);
         fitting = refl;
         slot =
-            home-fits (r .decider .owner) (k .0) _
+            home-fits o (k .0) _
             (record {
-              at = and-left (ownedAt (r .decider .owner) (k .0)) _ f;
-              mode = and-left (ownedMode (r .decider .owner) (a .mode)) _ g;
+              at = and-left (ownedAt o (k .0)) _ f;
+              mode = and-left (ownedMode o (a .mode)) _ g;
               sized = aw .sized;
               few = few-less (a .mode) 0 (heads a) (omega (arith, aw .empty)) (few-zero (a .mode));
               small = aw .small;
             });
         reach = refl;
-        vacancy = vacancy-by (someAgent (changed a (a .holders) q (a .incarnation))) [] i sp kk es (omega (arith, z .vacantS, ma, flag-le (eqb (heads a) 0)));
+        vacancy = vacancy-by _ [] i sp kk es (omega (arith, z .vacantS, ma, flag-le (eqb (heads a) 0)));
       })
 
   keep-free-back : (u : ClientId) → Split r (returns Free ∷ []) rest → Keeps r k u rest (withSlot (siteOf r k u) (someAgent a)) []
   unfolding tally askM markM owedM markAll misfitP fits fitsFree
   keep-free-back u sp =
-      let f : (ownedAt (r .decider .owner) (k .0) && (ownedMode (r .decider .owner) (a .mode) && (fitsAway a && eqb (a .queue .len) 0))) ≡ true = fit _ (came-fits r rest _ i sp) in
-      back-home u Free (a .queue) sp (λ d n. omega arith) (λ d. (refl, refl)) refl (drop-last (ownedAt (r .decider .owner) (k .0)) (ownedMode (r .decider .owner) (a .mode)) (fitsAway a) _ f)
+      let f : (ownedAt o (k .0) && (ownedMode o (a .mode) && (fitsAway a && eqb (a .queue .len) 0))) ≡ true = fit _ (came-fits r rest _ i sp) in
+      back-home u Free (a .queue) sp (λ d n. omega arith) (λ d. (refl, refl)) refl (drop-last (ownedAt o (k .0)) (ownedMode o (a .mode)) (fitsAway a) _ f)
 
   module _ (c : ClientId) (n : Mode) (sp : Split r (returns (Grant c n) ∷ []) rest) where
-    back-fits : (ltb (c .0) clients && (ownedAt (r .decider .owner) (k .0) && (ownedMode (r .decider .owner) (a .mode) && fitsAway a))) ≡ true
+    back-fits : (ltb (c .0) clients && (ownedAt o (k .0) && (ownedMode o (a .mode) && fitsAway a))) ≡ true
     unfolding misfitP fits
     back-fits = fit _ (came-fits r rest _ i sp)
 
     keep-grant-back : Keeps r k c rest (withSlot (siteOf r k c) (someAgent (requeued a c n))) []
     unfolding tally askM markM owedM markAll
     keep-grant-back =
-        back-home c (Grant c n) (queueOf (record { client = c; mode = n } ∷ waiters (a .queue))) sp (λ d m. rw (waiters-of (record { client = c; mode = n } ∷ waiters (a .queue)))) (λ d. (refl, refl)) refl
-        (and-right (ltb (c .0) clients) _ back-fits)
-
-    back-room : noRoom a c ≡ false
-    back-room = room-waiting r i (waiters (a .queue)) (λ d m. omega (arith, in-line d m)) c n (ltb-true (c .0) clients (and-left (ltb (c .0) clients) _ back-fits)) in-line
-      where
-        in-line : (d : ℕ) (m : Mode) → hit d m c n + tally (hitW d m) (waiters (a .queue)) ≤ waitF m (statusAt r d)
-        in-line d m = unfold weight tally askM queuedS in omega (arith, i .waits d m, sp .parts (waitingP d m))
+        let line : List Waiter = record { client = c; mode = n } ∷ waiters (a .queue) in
+        back-home c (Grant c n) (queueOf line) sp (λ d m. rw (waiters-of line)) (λ d. (refl, refl)) refl (and-right (ltb (c .0) clients) _ back-fits)
 
     good-grant-back : Good r k c rest (withRoom a c (does (withSlot (siteOf r k c) (someAgent (requeued a c n))) []))
+    unfolding weight tally askM queuedS
     good-grant-back =
-        good-by r k c rest (noRoom a c) cannot-place (does (withSlot (siteOf r k c) (someAgent (requeued a c n))) []) (λ q. true≢false (sym q ∙ back-room)) (λ q. keep-grant-back)
+        let below : c .0 < clients = ltb-true (c .0) clients (and-left (ltb (c .0) clients) _ back-fits) in
+        good-room a (room-waiting r i (waiters (a .queue)) c n below (λ d m. omega (arith, i .waits d m, sp .parts (waitingP d m)))) keep-grant-back
 
 -- ---- a RELEASE comes to the machine whose agent lists the client
 release-leaves : (r : LockState) (rest : List Packet) (i : Inv r) (c : ClientId) (p : Packet) (t : Address) (b x : Bool)
@@ -271,8 +251,8 @@ module _ (r : LockState) (rest : List Packet) (i : Inv r) (k : MachineId) (kk : 
   seen y c = withSlot (siteOf r k c) (record { present = y; agent = h })
 
   -- sent back to the decider
-  good-back : (c : ClientId) (y : Bool) {m : Message} (b x : Bool) → Request c m → slotAt r (k .0) ≡ record { present = y; agent = h } → Split r (came m b x ∷ []) rest
-      → Good r k c rest (sendsBack (seen y c) (came m b x))
+  good-back : (c : ClientId) (y : Bool) {m : Message} (b x : Bool) → Request c m → slotAt r (k .0) ≡ record { present = y; agent = h }
+      → Split r (came m b x ∷ []) rest → Good r k c rest (sendsBack (seen y c) (came m b x))
   good-back c y b x q es sp = keep-on i (still es) kk _ _ refl refl refl (λ o. request-any _ _ b _ o x q) refl sp
 
   good-acquire-arrives : (y : Bool) (c : ClientId) (n : Mode) (g b x : Bool) → slotAt r (k .0) ≡ record { present = y; agent = h }
@@ -284,7 +264,8 @@ module _ (r : LockState) (rest : List Packet) (i : Inv r) (k : MachineId) (kk : 
       (λ q. impossible i sp (no-marked x (ToMachine k) b _ c n _ (unshared (r .decider .owner) (h .mode) q (slot-home r (k .0) h i es .mode))))
   good-acquire-arrives true c n false b x es sp =
       good-by r k c rest (mayJoin (seen true c) n) _ (withRoom h c (does (withSlot (siteOf r k c) (someAgent (queuing h c n))) []))
-      (λ q. let both = may-join (seen true c) n q in keep-joins r rest i k kk h es c n p b x (both .0) (both .1) sp) (λ q. good-queues r rest i k kk h es c n p b x sp)
+      (λ q. let both = may-join (seen true c) n q in keep-joins r rest i k kk h es c n p b x (both .0) (both .1) sp)
+      (λ q. good-queues r rest i k kk h es c n p b x sp)
 
   good-release-arrives : (y : Bool) (c : ClientId) (b x : Bool) → slotAt r (k .0) ≡ record { present = y; agent = h } → Split r (came (Release c) b x ∷ []) rest
       → Good r k c rest (releaseArrives (seen y c) (came (Release c) b x) c)

@@ -1,19 +1,20 @@
 -- Every acquire of a client that is idle and named by no packet, and every release of one that holds, can be placed and keeps the
 -- invariant.
-use Rattle.theorems.specs.Names.{MachineId, ClientId, Mode, Exclusive, Shared, Owner, Unowned, Owned, Agent, AgentSlot, ToDecider, Message, Free, Acquire}
-use Rattle.theorems.specs.Names.{Grant, Release, Packet, Idle, Waiting, Holding, LockState, _≡_, refl, ap, Bool, true, false, List, [], _∷_, _++_, ℕ, _+_}
-use Rattle.theorems.specs.Names.{_≤_, _<_, arith, ℕ-discrete, length, getD, set, eq-eqb, ne-eqb, lt-ltb, pick, any, machineOf, someAgent, agentOn, listed}
-use Rattle.theorems.specs.Names.{plain, waiters, noAgent, packets, Verdict, cannot-place, does, Site, siteOf, withSlot, withStatus, joining, queuing}
-use Rattle.theorems.specs.Names.{noRoom, withRoom, mayJoin, lists, clientAsks, clientAcquires, leaves, clientReleases, messageNames, names, or-left}
-use Rattle.theorems.specs.Names.{or-right, waiters-of, sym, _∙_, true≢false, machines, clients, both}
-use Rattle.theorems.specs.Tally.{flag, tally, tally-append, tally-le}
+use Rattle.theorems.specs.Names.{MachineId, ClientId, Mode, Exclusive, Shared, Owner, Unowned, Owned, Agent, ToDecider, Message, Free, Acquire, Grant}
+use Rattle.theorems.specs.Names.{Release, Packet, Idle, Waiting, Holding, LockState, _≡_, refl, ap, Bool, true, false, List, [], _∷_, ℕ, _+_, _≤_, _<_}
+use Rattle.theorems.specs.Names.{arith, bool-cases, eqb, eqb-true, eq-eqb, lt-ltb, pick, any, machineOf, someAgent, agentOn, listed, plain, waiters}
+use Rattle.theorems.specs.Names.{noAgent, packets, Verdict, does, Site, siteOf, withSlot, withStatus, joining, queuing, withRoom, mayJoin, lists}
+use Rattle.theorems.specs.Names.{clientAsks, clientAcquires, leaves, clientReleases, messageNames, names, or-left, or-right, machines, clients, Status}
+use Rattle.theorems.specs.Names.{_*_}
+use Rattle.theorems.specs.Tally.{flag, tally, tally-le}
 use Rattle.theorems.specs.Weights.{statusAt, slotAt, weight, one, hit, hitW, askM, queuedS, waitingP, markM, listedS, listedP, owedM, releaseM, releaseP}
-use Rattle.theorems.specs.Weights.{agentS, incarnationS, markAll, vacantS, waitF, holdF, idleF, clash, few, fits, misfitP}
+use Rattle.theorems.specs.Weights.{agentS, incarnationS, markAll, vacantS, waitF, holdF, idleF, clash, misfitS, fitsHome, fits, misfitP}
 use Rattle.theorems.specs.Invariant.{Inv}
-use Rattle.theorems.specs.InvariantStep.{Keeps, Split, keep, vacancy-by, framed}
-use Rattle.theorems.specs.Facts.{list-on, Home, home-fits, slot-home, status-move, in-slot, clash-none, namesM, hits, owes-list, joins-fits, joins-heads}
+use Rattle.theorems.specs.InvariantStep.{Keeps, Split, told, keep, vacancy-by, framed}
+use Rattle.theorems.specs.Facts.{Home, slot-home, status-move, modes-told, in-slot, clash-none, namesM, hits, owes-list, joins-fits, joins-listed}
+use Rattle.theorems.specs.Facts.{joins-busy}
 use Rattle.theorems.specs.Sent.{Good, good-by, may-join}
-use Rattle.theorems.specs.Waiters.{room-idle}
+use Rattle.theorems.specs.Waiters.{room-idle, queued-one, good-room}
 use Rattle.theorems.specs.Leaving.{Leaver, keep-leaves}
 
 -- ---- nothing leaves the wire
@@ -33,7 +34,9 @@ names-message c Free e = refl
 pub names-none : (c : ClientId) (ps : List Packet) → any (names c) ps ≡ false → tally (λ p. namesM (c .0) (p .message)) ps ≡ 0
 unfolding tally
 names-none c [] e = refl
-names-none c (p ∷ ps) e = omega (arith, names-message c (p .message) (or-left (names c p) (any (names c) ps) e), names-none c ps (or-right (names c p) (any (names c) ps) e))
+names-none c (p ∷ ps) e =
+    let here = names-message c (p .message) (or-left (names c p) (any (names c) ps) e) in
+    omega (arith, names-none c ps (or-right (names c p) (any (names c) ps) e))
 
 module _ (r : LockState) (i : Inv r) (c : ClientId) (cl : c .0 < clients) (id : statusAt r (c .0) ≡ Idle)
     (unnamed : tally (λ p. namesM (c .0) (p .message)) (packets (r .wire)) ≡ 0) where
@@ -54,60 +57,50 @@ module _ (r : LockState) (i : Inv r) (c : ClientId) (cl : c .0 < clients) (id : 
 
   rels-asker : (d : ℕ) → tally (releaseP d) ps + one d c ≤ idleF (statusAt r d)
   unfolding one idleF
-  rels-asker d = go (ℕ-discrete (c .0) d)
-    where
-      go : Dec (c .0 ≡ d) → tally (releaseP d) ps + one d c ≤ idleF (statusAt r d)
-      go (yes q) = rw (← q, id, eq-eqb (c .0) (c .0) refl) (omega (arith, unreleased))
-      go (no q) = rw (ne-eqb (c .0) d q) (omega (arith, i .rels d))
+  rels-asker d =
+      bool-cases (eqb (c .0) d) (λ q. rw (← eqb-true (c .0) d q, id, eq-eqb (c .0) (c .0) refl) (omega (arith, unreleased)))
+      (λ q. rw q (omega (arith, i .rels d)))
 
   -- no agent on its machine
   keep-asks : (k : MachineId) → k .0 < machines → (m : Mode) → Keeps r k c ps (withStatus (siteOf r k c) (Waiting m)) (plain (Acquire c m false) ToDecider ∷ [])
   unfolding tally askM markM owedM releaseM markAll queuedS listedS agentS incarnationS one hit waitF holdF idleF clash misfitP fits noAgent
   keep-asks k kk m =
-      let qs : List Packet = plain (Acquire c m false) ToDecider ∷ [] in
+      let move = status-move i cl id (Waiting m) in
       keep i
       (record {
         frame = framed (split-none r) kk refl refl;
-        waits = λ d n. omega (arith, status-move i cl id (Waiting m) (waitF n) d);
-        holds = λ d. omega (arith, status-move i cl id (Waiting m) holdF d);
-        rels = λ d. omega (arith, status-move i cl id (Waiting m) idleF d, rels-asker d);
+        waits = λ d n. omega (arith, move (waitF n) d);
+        holds = λ d. omega (arith, move holdF d);
+        rels = λ d. omega (arith, move idleF d, rels-asker d);
         agent = refl;
         incs = λ x h. h;
-        modes = λ d. omega (arith, status-move i cl id (Waiting m) (clash (r .decider .owner)) d, i .modes d);
+        modes = modes-told c (Waiting m) i cl refl;
         fitting = rw (lt-ltb (c .0) clients cl);
         slot = i .homes (k .0);
         reach = refl;
-        vacancy = vacancy-by (slotAt r (k .0)) qs i (split-none r) kk refl (omega arith);
+        vacancy = vacancy-by (slotAt r (k .0)) (plain (Acquire c m false) ToDecider ∷ []) i (split-none r) kk refl (omega arith);
       })
 
   module _ (k : MachineId) (kk : k .0 < machines) (h : Agent) (es : slotAt r (k .0) ≡ someAgent h) where
-    home : Home (r .decider .owner) (k .0) h
-    home = slot-home r (k .0) h i es
-
-    hl : c .0 < length (h .holders)
-    hl = omega (arith, home .sized)
-
     -- agent and request both shared
     keep-joins : h .mode ≡ Shared → Keeps r k c ps (withSlot (withStatus (siteOf r k c) (Holding Shared)) (someAgent (joining h c))) []
-    unfolding tally queuedS listedS agentS incarnationS one waitF holdF idleF clash vacantS
+    unfolding tally weight queuedS listedS agentS incarnationS one waitF holdF idleF vacantS
     keep-joins sh =
-        let new : AgentSlot = someAgent (joining h c) in
-        let un : flag (getD (h .holders) (c .0) false) ≡ 0 = omega (arith, unlisted, in-slot r (listedP (c .0)) (listedS (c .0)) (k .0) (someAgent h) i kk es) in
+        let move = status-move i cl id (Holding Shared) in
+        let home : Home (r .decider .owner) (k .0) h = slot-home r (k .0) h i es in
         keep i
         (record {
           frame = framed (split-none r) kk es refl;
-          waits = λ d n. omega (arith, status-move i cl id (Holding Shared) (waitF n) d);
-          holds = λ d. omega (arith, status-move i cl id (Holding Shared) holdF d, list-on (h .holders) (c .0) d hl un);
-          rels = λ d. omega (arith, status-move i cl id (Holding Shared) idleF d, rels-asker d);
+          waits = λ d n. omega (arith, move (waitF n) d);
+          holds = λ d. omega (arith, move holdF d, joins-listed i kk es c cl (h .incarnation) (omega (arith, unlisted)) d);
+          rels = λ d. omega (arith, move idleF d, rels-asker d);
           agent = refl;
           incs = λ x e. e;
-          modes = λ d. omega (arith, i .modes d, rw (clash-none (r .decider .owner) Shared (rw sh at (home .mode))) at (status-move i cl id (Holding Shared) (clash (r .decider .owner)) d));
+          modes = modes-told c (Holding Shared) i cl (clash-none (r .decider .owner) Shared (rw sh at (home .mode)));
           fitting = refl;
-          slot = home-fits (r .decider .owner) (k .0) _ (joins-fits h (r .decider .owner) (k .0) (c .0) _ home sh (home .small));
+          slot = joins-fits i kk es c cl (h .incarnation) sh (home .small);
           reach = refl;
-          vacancy =
-              vacancy-by new [] i (split-none r) kk es
-              (rw (ne-eqb (tally flag (set (h .holders) (c .0) true)) 0 (joins-heads (h .holders) (c .0) hl)) (omega arith));
+          vacancy = vacancy-by (someAgent (joining h c)) [] i (split-none r) kk es (omega (arith, joins-busy i kk es c cl (h .incarnation)));
         })
 
     -- else it joins the queue's end, which has room
@@ -115,46 +108,41 @@ module _ (r : LockState) (i : Inv r) (c : ClientId) (cl : c .0 < clients) (id : 
     unfolding queuedS
     in-line d m = omega (arith, in-slot r (waitingP d m) (queuedS d m) (k .0) (someAgent h) i kk es, i .waits d m)
 
-    home-room : noRoom h c ≡ false
-    home-room = room-idle r i (waiters (h .queue)) in-line c cl id
-
     keep-queues : (m : Mode) → Keeps r k c ps (withSlot (withStatus (siteOf r k c) (Waiting m)) (someAgent (queuing h c m))) []
-    unfolding tally queuedS listedS agentS incarnationS one hit waitF holdF idleF clash vacantS
+    unfolding tally listedS agentS incarnationS one hit waitF holdF idleF clash vacantS misfitS fitsHome
     keep-queues m =
-        let new : AgentSlot = someAgent (queuing h c m) in
+        let move = status-move i cl id (Waiting m) in
         keep i
         (record {
           frame = framed (split-none r) kk es refl;
-          waits = λ d n.
-              rw (waiters-of (waiters (h .queue) ++ record { client = c; mode = m } ∷ []))
-              (omega (arith, status-move i cl id (Waiting m) (waitF n) d, tally-append (hitW d n) (waiters (h .queue)) (record { client = c; mode = m } ∷ [])));
-          holds = λ d. omega (arith, status-move i cl id (Waiting m) holdF d);
-          rels = λ d. omega (arith, status-move i cl id (Waiting m) idleF d, rels-asker d);
+          waits = λ d n. omega (arith, move (waitF n) d, queued-one h c m d n);
+          holds = λ d. omega (arith, move holdF d);
+          rels = λ d. omega (arith, move idleF d, rels-asker d);
           agent = refl;
           incs = λ x e. e;
-          modes = λ d. omega (arith, i .modes d, status-move i cl id (Waiting m) (clash (r .decider .owner)) d);
+          modes = modes-told c (Waiting m) i cl refl;
           fitting = refl;
-          slot = home-fits (r .decider .owner) (k .0) _ (record { at = home .at; mode = home .mode; sized = home .sized; few = home .few; small = home .small });
+          slot = rw es at (i .homes (k .0));
           reach = refl;
-          vacancy = vacancy-by new [] i (split-none r) kk es (omega arith);
+          vacancy = vacancy-by (someAgent (queuing h c m)) [] i (split-none r) kk es (omega arith);
         })
 
     abbrev queues : Mode → Verdict
     queues m = withRoom h c (does (withSlot (withStatus (siteOf r k c) (Waiting m)) (someAgent (queuing h c m))) [])
 
-    good-queues : (m : Mode) → Good r k c ps (queues m)
-    good-queues m = good-by r k c ps (noRoom h c) cannot-place (does (withSlot (withStatus (siteOf r k c) (Waiting m)) (someAgent (queuing h c m))) []) (λ q. true≢false (sym q ∙ home-room)) (λ q. keep-queues m)
-
     -- by the test of the site v, whose slot has the agent
     good-home : (v : Site) → v .slot ≡ someAgent h → (m : Mode)
         → Good r k c ps (pick (mayJoin v m) (does (withSlot (withStatus (siteOf r k c) (Holding m)) (someAgent (joining h c))) []) (queues m))
-    good-home v e m = good-by r k c ps (mayJoin v m) _ (queues m) (λ q. let both = may-join v m q in rw (both .1) (keep-joins (rw e at (both .0)))) (λ q. good-queues m)
+    good-home v e m =
+        good-by r k c ps (mayJoin v m) _ (queues m) (λ q. let both = may-join v m q in rw (both .1) (keep-joins (rw e at (both .0))))
+        (λ q. good-room h (room-idle r i (waiters (h .queue)) in-line c cl id) (keep-queues m))
 
   -- the site: y, h are its slot
   abbrev seen : Bool → Agent → Site
   seen y h = withSlot (siteOf r (machineOf c) c) (record { present = y; agent = h })
 
-  good-client-asks : (m : Mode) (y : Bool) (h : Agent) → slotAt r (machineOf c .0) ≡ record { present = y; agent = h } → Good r (machineOf c) c ps (clientAsks (seen y h) c m y h)
+  good-client-asks : (m : Mode) (y : Bool) (h : Agent) → slotAt r (machineOf c .0) ≡ record { present = y; agent = h }
+      → Good r (machineOf c) c ps (clientAsks (seen y h) c m y h)
   unfolding clientAsks
   good-client-asks m false h es = rw (← es) (keep-asks (machineOf c) (omega arith) m)
   good-client-asks m true h es = good-home (machineOf c) (omega arith) h es (seen true h) refl m
@@ -165,8 +153,9 @@ module _ (r : LockState) (i : Inv r) (c : ClientId) (cl : c .0 < clients) (id : 
 
 -- ---- a client that holds lets go
 module _ (r : LockState) (i : Inv r) (c : ClientId) (cl : c .0 < clients) (m : Mode) (ho : statusAt r (c .0) ≡ Holding m) where
-  held : clash (r .decider .owner) (Holding m) ≡ 0
-  held = rw ho at (i .modes (c .0))
+  -- every count of its status, which becomes idle
+  move : (F : Status → ℕ) (d : ℕ) → F (told r c Idle d) + one d c * F (Holding m) ≡ F (statusAt r d) + one d c * F Idle
+  move = status-move i cl ho Idle
 
   held-fits : (o : Owner) → clash o (Holding m) ≡ 0 → misfitP o (plain (Release c) ToDecider) ≡ 0
   unfolding clash misfitP fits noAgent
@@ -177,20 +166,19 @@ module _ (r : LockState) (i : Inv r) (c : ClientId) (cl : c .0 < clients) (m : M
   keep-releases : (k : MachineId) → k .0 < machines → Keeps r k c (packets (r .wire)) (withStatus (siteOf r k c) Idle) (plain (Release c) ToDecider ∷ [])
   unfolding tally askM markM owedM releaseM markAll queuedS listedS agentS incarnationS one waitF holdF idleF clash noAgent
   keep-releases k kk =
-      let qs : List Packet = plain (Release c) ToDecider ∷ [] in
       keep i
       (record {
         frame = framed (split-none r) kk refl refl;
-        waits = λ d n. omega (arith, status-move i cl ho Idle (waitF n) d);
-        holds = λ d. omega (arith, status-move i cl ho Idle holdF d);
-        rels = λ d. omega (arith, i .rels d, status-move i cl ho Idle idleF d);
+        waits = λ d n. omega (arith, move (waitF n) d);
+        holds = λ d. omega (arith, move holdF d);
+        rels = λ d. omega (arith, i .rels d, move idleF d);
         agent = refl;
         incs = λ x h. h;
-        modes = λ d. omega (arith, i .modes d, rw held at (status-move i cl ho Idle (clash (r .decider .owner)) d));
-        fitting = omega (arith, held-fits (r .decider .owner) held);
+        modes = modes-told c Idle i cl refl;
+        fitting = omega (arith, held-fits (r .decider .owner) (rw ho at (i .modes (c .0))));
         slot = i .homes (k .0);
         reach = refl;
-        vacancy = vacancy-by (slotAt r (k .0)) qs i (split-none r) kk refl (omega arith);
+        vacancy = vacancy-by (slotAt r (k .0)) (plain (Release c) ToDecider ∷ []) i (split-none r) kk refl (omega arith);
       })
 
   -- its machine's agent lists it
@@ -199,25 +187,24 @@ module _ (r : LockState) (i : Inv r) (c : ClientId) (cl : c .0 < clients) (m : M
   holder-leaves =
       record {
         split = split-none r;
-        waits = λ d n. omega (arith, status-move i cl ho Idle (waitF n) d);
+        waits = λ d n. omega (arith, move (waitF n) d);
         lists = λ d. refl;
-        holds = λ d. omega (arith, status-move i cl ho Idle holdF d);
-        rels = λ d. omega (arith, i .rels d, status-move i cl ho Idle idleF d);
+        holds = λ d. omega (arith, move holdF d);
+        rels = λ d. omega (arith, i .rels d, move idleF d);
         agent = refl;
         incs = refl;
         marks = refl;
-        modes = λ d. omega (arith, i .modes d, rw held at (status-move i cl ho Idle (clash (r .decider .owner)) d));
+        modes = modes-told c Idle i cl refl;
       }
 
   good-lets-go : (y : Bool) (h : Agent) → slotAt r (machineOf c .0) ≡ record { present = y; agent = h }
       → Good r (machineOf c) c (packets (r .wire)) (clientReleases (withSlot (siteOf r (machineOf c) c) (record { present = y; agent = h })) c)
   unfolding clientReleases
   good-lets-go false h es = rw (← es) (keep-releases (machineOf c) (omega arith))
-  good-lets-go true h es = go (listed h c) refl
-    where
-      go : (t : Bool) → listed h c ≡ t → Good r (machineOf c) c (packets (r .wire)) (pick t (leaves (withSlot (withStatus (siteOf r (machineOf c) c) Idle) (someAgent h)) h c) (does (withSlot (withStatus (siteOf r (machineOf c) c) Idle) (someAgent h)) (plain (Release c) ToDecider ∷ [])))
-      go true q = keep-leaves r i (machineOf c) (omega arith) h es c cl q Idle [] (packets (r .wire)) holder-leaves
-      go false q = rw (← es) (keep-releases (machineOf c) (omega arith))
+  good-lets-go true h es =
+      good-by r (machineOf c) c (packets (r .wire)) (listed h c) (leaves (withSlot (withStatus (siteOf r (machineOf c) c) Idle) (someAgent h)) h c) _
+      (λ q. keep-leaves r i (machineOf c) (omega arith) h es c cl q Idle [] (packets (r .wire)) holder-leaves)
+      (λ q. rw (← es) (keep-releases (machineOf c) (omega arith)))
 
   pub good-client-releases : Good r (machineOf c) c (packets (r .wire)) (clientReleases (siteOf r (machineOf c) c) c)
   good-client-releases = good-lets-go (agentOn r (machineOf c) .present) (agentOn r (machineOf c) .agent) refl

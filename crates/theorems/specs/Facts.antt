@@ -39,27 +39,28 @@ pub absent : (s : AgentSlot) → s .present ≡ false → Zero s
 unfolding queuedS listedS agentS incarnationS vacantS
 absent s e = record { queuedS = λ d m. rw e; listedS = λ d. rw e; agentS = rw e; incarnationS = rw e; vacantS = rw e }
 
--- ---- holders
-pub list-on : (hs : List Bool) (c d : ℕ) → c < length hs → flag (getD hs c false) ≡ 0 → flag (getD (set hs c true) d false) ≡ flag (getD hs d false) + flag (eqb c d)
-list-on hs c d h e = go (ℕ-discrete d c)
+-- a count of the element at d, after the one at c is set
+pub set-at : {A : Type 0} (f : A → ℕ) (z : A) (xs : List A) (c d : ℕ) (y : A) → (d ≡ c → c < length xs)
+    → f (getD (set xs c y) d z) + flag (eqb c d) * f (getD xs c z) ≡ f (getD xs d z) + flag (eqb c d) * f y
+set-at f z xs c d y h = go (ℕ-discrete d c)
   where
-    go : Dec (d ≡ c) → flag (getD (set hs c true) d false) ≡ flag (getD hs d false) + flag (eqb c d)
-    go (yes q) = rw (q, getD-set-same hs c true false h, eq-eqb c c refl) (omega arith)
-    go (no n) = rw (getD-set-other hs c d true false n, ne-eqb c d (λ q. n (sym q))) (omega arith)
+    go : Dec (d ≡ c) → f (getD (set xs c y) d z) + flag (eqb c d) * f (getD xs c z) ≡ f (getD xs d z) + flag (eqb c d) * f y
+    go (yes q) = rw (q, getD-set-same xs c y z (h q), eq-eqb c c refl) (omega arith)
+    go (no n) = rw (getD-set-other xs c d y z n, ne-eqb c d (λ q. n (sym q))) (omega arith)
 
-pub list-off : (hs : List Bool) (c d : ℕ) → c < length hs → getD hs c false ≡ true → flag (getD (set hs c false) d false) + flag (eqb c d) ≡ flag (getD hs d false)
-list-off hs c d h e = go (ℕ-discrete d c)
-  where
-    go : Dec (d ≡ c) → flag (getD (set hs c false) d false) + flag (eqb c d) ≡ flag (getD hs d false)
-    go (yes q) = rw (q, getD-set-same hs c false false h, eq-eqb c c refl, e)
-    go (no n) = rw (getD-set-other hs c d false false n, ne-eqb c d (λ q. n (sym q))) (omega arith)
+-- ---- holders
+pub list-on : (hs : List Bool) (c d : ℕ) → c < length hs → flag (getD hs c false) ≡ 0
+    → flag (getD (set hs c true) d false) ≡ flag (getD hs d false) + flag (eqb c d)
+list-on hs c d h e = omega (arith, rw e at (set-at flag false hs c d true (λ q. h)))
+
+pub list-off : (hs : List Bool) (c d : ℕ) → c < length hs → getD hs c false ≡ true
+    → flag (getD (set hs c false) d false) + flag (eqb c d) ≡ flag (getD hs d false)
+list-off hs c d h e = omega (arith, rw e at (set-at flag false hs c d false (λ q. h)))
 
 pub nobody : (hs : List Bool) (d : ℕ) → tally flag hs ≡ 0 → flag (getD hs d false) ≡ 0
-nobody hs d e = go (ltb d (length hs)) refl
-  where
-    go : (b : Bool) → ltb d (length hs) ≡ b → flag (getD hs d false) ≡ 0
-    go true q = omega (arith, tally-at flag false hs d (ltb-true d (length hs) q))
-    go false q = rw (List·getD-eq-default hs false (ltb-false d (length hs) q))
+nobody hs d e =
+    bool-cases (ltb d (length hs)) (λ q. omega (arith, tally-at flag false hs d (ltb-true d (length hs) q)))
+    (λ q. rw (List·getD-eq-default hs false (ltb-false d (length hs) q)))
 
 pub came-fits : (r : LockState) (rest : List Packet) (p : Packet) → Inv r → Split r (p ∷ []) rest → misfitP (r .decider .owner) p ≡ 0
 unfolding tally
@@ -98,7 +99,8 @@ pub record Plain (c : ClientId) (s : AgentSlot) : Type 0 where
   pub named : ltb (c .0) clients ≡ true
   pub below : c .0 < clients
 
-pub plain-request : {r : LockState} {rest : List Packet} {c : ClientId} {p : Packet} → Inv r → Request c (p .message) → Split r (p ∷ []) rest → Plain c (p .carried)
+pub plain-request : {r : LockState} {rest : List Packet} {c : ClientId} {p : Packet} → Inv r → Request c (p .message) → Split r (p ∷ []) rest
+    → Plain c (p .carried)
 unfolding misfitP
 plain-request {r} {rest} {c} {p} i q sp =
     let f : fitsP (r .decider .owner) p ≡ true = fit _ (came-fits r rest p i sp) in
@@ -114,7 +116,7 @@ pub record Away (a : Agent) : Type 0 where
 pub away-of : (a : Agent) → fitsAway a ≡ true → Away a
 unfolding fitsAway
 away-of a h =
-    let h1 : (eqb (heads a) 0 && ltb (a .incarnation) 256) ≡ true = and-right (eqb (length (a .holders)) clients) _ h in
+    let h1 = and-right (eqb (length (a .holders)) clients) _ h in
     record {
       sized = eqb-true (length (a .holders)) clients (and-left (eqb (length (a .holders)) clients) _ h);
       empty = eqb-true (heads a) 0 (and-left (eqb (heads a) 0) _ h1);
@@ -136,9 +138,9 @@ pub home-of : (o : Owner) (k : ℕ) (a : Agent) → misfitS o k (someAgent a) �
 unfolding misfitS fitsHome
 home-of o k a e =
     let h : fitsHome o k a ≡ true = fit (fitsHome o k a) e in
-    let h1 : (ownedMode o (a .mode) && (eqb (length (a .holders)) clients && (few (a .mode) (heads a) && ltb (a .incarnation) 256))) ≡ true = and-right (ownedAt o k) _ h in
-    let h2 : (eqb (length (a .holders)) clients && (few (a .mode) (heads a) && ltb (a .incarnation) 256)) ≡ true = and-right (ownedMode o (a .mode)) _ h1 in
-    let h3 : (few (a .mode) (heads a) && ltb (a .incarnation) 256) ≡ true = and-right (eqb (length (a .holders)) clients) _ h2 in
+    let h1 = and-right (ownedAt o k) _ h in
+    let h2 = and-right (ownedMode o (a .mode)) _ h1 in
+    let h3 = and-right (eqb (length (a .holders)) clients) _ h2 in
     record {
       at = and-left (ownedAt o k) _ h;
       mode = and-left (ownedMode o (a .mode)) _ h1;
@@ -162,13 +164,13 @@ few-less Shared x y h e = refl
 pub status-move : {r : LockState} {c : ClientId} {old : Status} → Inv r → c .0 < clients → statusAt r (c .0) ≡ old → (st : Status) (F : Status → ℕ) (d : ℕ)
     → F (told r c st d) + one d c * F old ≡ F (statusAt r d) + one d c * F st
 unfolding one
-status-move {r} {c} i cl e st F d = rw (← e) (go (ℕ-discrete d (c .0)))
-  where
-    go : Dec (d ≡ c .0) → F (told r c st d) + flag (eqb (c .0) d) * F (statusAt r (c .0)) ≡ F (statusAt r d) + flag (eqb (c .0) d) * F st
-    go (yes q) =
-        let h : c .0 < length (r .clients) = omega (arith, i .all-clients) in
-        rw (q, eq-eqb (c .0) (c .0) refl, told, getD-set-same (r .clients) (c .0) (record { status = st }) idle h) (omega arith)
-    go (no n) = rw (ne-eqb (c .0) d (λ q. n (sym q)), told, getD-set-other (r .clients) (c .0) d (record { status = st }) idle n) (omega arith)
+status-move {r} {c} i cl e st F d =
+    rw (← e) (set-at (λ x. F (x .status)) idle (r .clients) (c .0) d (record { status = st }) (λ q. omega (arith, i .all-clients)))
+
+-- the modes agree after it, if the client's does
+pub modes-told : {r : LockState} (c : ClientId) (st : Status) → Inv r → c .0 < clients → clash (r .decider .owner) st ≡ 0
+    → (d : ℕ) → clash (r .decider .owner) (told r c st d) ≡ 0
+modes-told {r} c st i cl e d = omega (arith, i .modes d, rw e at (status-move i cl refl st (clash (r .decider .owner)) d))
 
 -- ---- who waits is a client
 pub far-idle : (r : LockState) (d : ℕ) → Inv r → clients ≤ d → statusAt r d ≡ Idle
@@ -189,15 +191,6 @@ pub in-slot : (r : LockState) (f : Packet → ℕ) (g : AgentSlot → ℕ) (k : 
 unfolding weight
 in-slot r f g k s i kk e = omega (arith, rw e at (tally-at g noAgent (r .agents) k (omega (arith, i .all-machines))))
 
-pub waits-one : (m : Mode) (s : Status) → waitF m s ≤ 1
-unfolding waitF
-waits-one m Idle = omega arith
-waits-one Exclusive (Waiting Exclusive) = omega arith
-waits-one Exclusive (Waiting Shared) = omega arith
-waits-one Shared (Waiting Exclusive) = omega arith
-waits-one Shared (Waiting Shared) = omega arith
-waits-one m (Holding n) = omega arith
-
 pub waiting-is : (n : Mode) (s : Status) → waitF n s ≡ 1 → s ≡ Waiting n
 unfolding waitF
 waiting-is n Idle e = absurd (omega arith)
@@ -209,7 +202,7 @@ waiting-is n (Holding m) e = absurd (omega arith)
 
 pub one-le : (d : ℕ) (c : ClientId) → one d c ≤ 1
 unfolding one
-one-le d c = bool-cases (eqb (c .0) d) (λ q. rw q (omega arith)) (λ q. rw q (omega arith))
+one-le d c = flag-le (eqb (c .0) d)
 
 abbrev pub farW : Waiter → ℕ
 farW w = flag (not (ltb (w .client .0) clients))
@@ -219,11 +212,8 @@ unfolding tally
 far-none [] h = refl
 far-none (w ∷ ws) h =
     let t : tally farW ws ≡ 0 = far-none ws (λ d m g. omega (arith, h d m g)) in
-    rw (at (ltb (w .client .0) clients) refl) (omega arith)
-  where
-    at : (b : Bool) → ltb (w .client .0) clients ≡ b → ltb (w .client .0) clients ≡ true
-    at true e = e
-    at false e = absurd (omega (arith, h (w .client .0) (w .mode) (ltb-false (w .client .0) clients e), hit-self (w .client) (w .mode)))
+    bool-cases (ltb (w .client .0) clients) (λ q. rw q (omega arith))
+    (λ q. absurd (omega (arith, h (w .client .0) (w .mode) (ltb-false (w .client .0) clients q), hit-self (w .client) (w .mode))))
 
 pub clash-none : (o : Owner) (n : Mode) → ownedMode o n ≡ true → clash o (Holding n) ≡ 0
 unfolding clash
@@ -247,14 +237,21 @@ unfolding hit one
 hits d c Exclusive = omega arith
 hits d c Shared = omega arith
 
+-- what counts c alone counts 1 over all clients
+pub one-each : (c : ClientId) → ltb (c .0) clients ≡ true → sumTo clients (λ d. one d c) ≡ 1
+unfolding one
+one-each c e = sum-one clients (c .0) (ltb-true (c .0) clients e)
+
+pub as-one : (c : ClientId) → ltb (c .0) clients ≡ true → (f : ℕ → ℕ) → ((d : ℕ) → f d ≡ one d c) → sumTo clients f ≡ 1
+as-one c e f h = sum-ext clients f (λ d. one d c) h ∙ one-each c e
+
 -- the message names one client below clients, or is FREE
 names-sum : (m : Message) → inRange m ≡ true → freeM m + sumTo clients (λ d. namesM d m) ≡ 1
-unfolding askM markM releaseM freeM one
-names-sum (Acquire c n false) e =
-    omega (arith, sum-ext clients (λ d. namesM d (Acquire c n false)) (λ d. one d c) (λ d. omega (arith, hits d c n)), sum-one clients (c .0) (ltb-true (c .0) clients e))
-names-sum (Acquire c n true) e = omega (arith, sum-ext clients (λ d. namesM d (Acquire c n true)) (λ d. one d c) (λ d. omega arith), sum-one clients (c .0) (ltb-true (c .0) clients e))
-names-sum (Grant c n) e = omega (arith, sum-ext clients (λ d. namesM d (Grant c n)) (λ d. one d c) (λ d. omega (arith, hits d c n)), sum-one clients (c .0) (ltb-true (c .0) clients e))
-names-sum (Release c) e = omega (arith, sum-ext clients (λ d. namesM d (Release c)) (λ d. one d c) (λ d. omega arith), sum-one clients (c .0) (ltb-true (c .0) clients e))
+unfolding askM markM releaseM freeM
+names-sum (Acquire c n false) e = omega (arith, as-one c e (λ d. namesM d (Acquire c n false)) (λ d. omega (arith, hits d c n)))
+names-sum (Acquire c n true) e = omega (arith, as-one c e (λ d. namesM d (Acquire c n true)) (λ d. omega arith))
+names-sum (Grant c n) e = omega (arith, as-one c e (λ d. namesM d (Grant c n)) (λ d. omega (arith, hits d c n)))
+names-sum (Release c) e = omega (arith, as-one c e (λ d. namesM d (Release c)) (λ d. omega arith))
 names-sum Free e = omega (arith, sum-le clients 0 (λ d. namesM d Free) (λ d. omega arith))
 
 -- a packet is a misfit, or carries an agent and is a FREE, or names one client
@@ -271,8 +268,7 @@ free-fits o true t b a m = omega (arith, flag-le (isFree m))
 free-fits o false t b a (Acquire c n g) = omega arith
 free-fits o false t b a (Grant c n) = omega arith
 free-fits o false t b a (Release c) = omega arith
-free-fits o false t true a Free = omega arith
-free-fits o false t false a Free = omega arith
+free-fits o false t b a Free = simp and-false (omega arith)
 
 free-carries : (o : Owner) (p : Packet) → freeM (p .message) ≤ misfitP o p + agentP p
 unfolding misfitP agentS
@@ -295,6 +291,10 @@ statuses Idle = refl
 statuses (Waiting Exclusive) = refl
 statuses (Waiting Shared) = refl
 statuses (Holding n) = refl
+
+pub waits-one : (m : Mode) (s : Status) → waitF m s ≤ 1
+waits-one Exclusive s = omega (arith, statuses s)
+waits-one Shared s = omega (arith, statuses s)
 
 pub owes-list : (d : ℕ) (qs : List Packet)
     → tally (owedP d) qs ≤ tally (λ p. askM d Exclusive (p .message)) qs + tally (λ p. askM d Shared (p .message)) qs + tally (releaseP d) qs
@@ -329,24 +329,16 @@ module _ (r : LockState) (i : Inv r) where
 
   pub named-below : (d : ℕ) → tally (λ p. namesM d (p .message)) ps ≤ 2
   named-below d =
-      omega (
-        arith,
-        statuses (statusAt r d),
-        asks d Exclusive,
-        asks d Shared,
-        marks d,
-        owes-list d ps,
-        i .rels d,
-        tally-add (λ p. askM d Exclusive (p .message) + askM d Shared (p .message) + markM d (p .message)) (releaseP d) ps,
-        tally-add (λ p. askM d Exclusive (p .message) + askM d Shared (p .message)) (λ p. markM d (p .message)) ps,
-        tally-add (λ p. askM d Exclusive (p .message)) (λ p. askM d Shared (p .message)) ps,
-      )
+      let releases = tally-add (λ p. askM d Exclusive (p .message) + askM d Shared (p .message) + markM d (p .message)) (releaseP d) ps in
+      let marked = tally-add (λ p. askM d Exclusive (p .message) + askM d Shared (p .message)) (λ p. markM d (p .message)) ps in
+      let asked = tally-add (λ p. askM d Exclusive (p .message)) (λ p. askM d Shared (p .message)) ps in
+      omega (arith, statuses (statusAt r d), asks d Exclusive, asks d Shared, marked-below d, i .rels d)
 
   frees : tally (λ p. freeM (p .message)) ps ≤ 1
   unfolding weight
   frees =
-      omega
-      (arith, tally-le _ _ (free-carries (r .decider .owner)) ps, tally-add (misfitP (r .decider .owner)) agentP ps, i .fitting, i .agent, owned-one (r .decider .owner))
+      let o : Owner = r .decider .owner in
+      omega (arith, tally-le _ _ (free-carries o) ps, tally-add (misfitP o) agentP ps, i .fitting, i .agent, owned-one o)
 
   pub wire-bound : length ps ≤ wireCapacity
   wire-bound =
@@ -362,31 +354,27 @@ module _ (r : LockState) (i : Inv r) where
         sum-le clients 2 (λ d. tally (λ p. namesM d (p .message)) ps) named-below,
       )
 
-mark-in-range : (m : Message) → inRange m ≡ true → markAll m ≤ sumTo clients (λ d. markM d m)
-unfolding markAll markM one
-mark-in-range (Acquire c n false) e = omega arith
-mark-in-range (Acquire c n true) e = omega (arith, sum-one clients (c .0) (ltb-true (c .0) clients e))
-mark-in-range (Grant c n) e = omega arith
-mark-in-range (Release c) e = omega arith
-mark-in-range Free e = omega arith
+mark-in-range : (m : Message) → markAll m ≤ flag (not (inRange m)) + sumTo clients (λ d. markM d m)
+unfolding markAll markM
+mark-in-range (Acquire c n false) = omega arith
+mark-in-range (Acquire c n true) = bool-cases (ltb (c .0) clients) (λ q. omega (arith, one-each c q)) (λ q. rw q (omega arith))
+mark-in-range (Grant c n) = omega arith
+mark-in-range (Release c) = omega arith
+mark-in-range Free = omega arith
 
 mark-fits : (o : Owner) (p : Packet) → markP p ≤ misfitP o p + sumTo clients (λ d. markM d (p .message))
-unfolding misfitP markAll
+unfolding misfitP
 mark-fits o p =
     bool-cases (fitsP o p)
-    (λ q. omega (arith, mark-in-range (p .message) (named-of _ _ _ _ _ (p .message) q)))
-    (λ q. let e : misfitP o p ≡ 1 = rw q in omega (arith, mark-one (p .message)))
-  where
-    mark-one : (m : Message) → markAll m ≤ 1
-    mark-one (Acquire c n false) = omega arith
-    mark-one (Acquire c n true) = omega arith
-    mark-one (Grant c n) = omega arith
-    mark-one (Release c) = omega arith
-    mark-one Free = omega arith
+    (λ q. omega (arith, rw (named-of _ _ _ _ _ (p .message) q) at (mark-in-range (p .message))))
+    (λ q. let e : misfitP o p ≡ 1 = rw q in omega (arith, mark-in-range (p .message), flag-le (not (inRange (p .message)))))
 
 pub absent-of : (s : AgentSlot) → agentS s ≡ 0 → s .present ≡ false
 unfolding agentS
 absent-of s e = bool-cases (s .present) (λ q. absurd (omega (arith, rw q at e))) (λ q. q)
+
+zero-of : (s : AgentSlot) → agentS s ≡ 0 → Zero s
+zero-of s e = absent s (absent-of s e)
 
 -- ---- at a free lock nothing is marked; where the incarnations agree nothing is
 mark-free : (x : Bool) (t : Address) (b : Bool) (a : Agent) (m : Message) → markAll m ≤ flag (not (fits Unowned x t b a m))
@@ -407,8 +395,11 @@ silent-free r i o =
       tally-le markP (misfitP Unowned) (λ p. mark-free (p .carried .present) (p .to) (p .rejected) (p .carried .agent) (p .message)) (packets (r .wire)),
     )
 
-inc-zero : (s : AgentSlot) → agentS s ≡ 0 → incarnationS s ≡ 0
-inc-zero s e = absent s (absent-of s e) .incarnationS
+-- where no agent is, no incarnation is counted
+no-incs : (qs : List Packet) (xs : List AgentSlot) → tally agentP qs + tally agentS xs ≡ 0 → tally incarnationP qs + tally incarnationS xs ≡ 0
+no-incs qs xs z =
+    let here = tally-none agentS incarnationS (λ s e. zero-of s e .incarnationS) xs (omega arith) in
+    omega (arith, tally-none agentP incarnationP (λ q e. zero-of (q .carried) e .incarnationS) qs (omega arith))
 
 pub marks-bound : (r : LockState) → Inv r → tally markP (packets (r .wire)) ≤ clients
 marks-bound r i =
@@ -421,20 +412,9 @@ marks-bound r i =
       sum-le clients 1 (λ d. tally (λ p. markM d (p .message)) (packets (r .wire))) (marked-below r i),
     )
 
-pub silent-equal : (r : LockState) (p : Packet) (rest : List Packet) (i : Inv r) → Split r (p ∷ []) rest → agentP p ≡ 1 → incarnationP p ≡ r .decider .incarnation
-    → tally markP (packets (r .wire)) ≡ 0
-unfolding weight tally ownedF
-silent-equal r p rest i sp h e =
-    let others : tally agentP rest + tally agentS (r .agents) ≡ 0 = omega (arith, i .agent, owned-one (r .decider .owner), sp .parts agentP) in
-    omega
-    (arith, i .incs, marks-bound r i, sp .parts incarnationP, tally-none agentP incarnationP (λ q. inc-zero (q .carried)) rest (omega arith), tally-none agentS incarnationS inc-zero (r .agents) (omega arith))
-
 pub free-inc : (r : LockState) → Inv r → r .decider .owner ≡ Unowned → r .decider .incarnation ≡ 0
 unfolding weight ownedF
-free-inc r i o =
-    let z : tally agentP (packets (r .wire)) + tally agentS (r .agents) ≡ 0 = rw o at (i .agent) in
-    omega
-    (arith, i .incs, silent-free r i o, tally-none agentP incarnationP (λ q. inc-zero (q .carried)) (packets (r .wire)) (omega arith), tally-none agentS incarnationS inc-zero (r .agents) (omega arith))
+free-inc r i o = omega (arith, i .incs, silent-free r i o, no-incs (packets (r .wire)) (r .agents) (rw o at (i .agent)))
 
 pub same-mode : (m : Mode) → sameMode m m ≡ true
 same-mode Exclusive = refl
@@ -443,13 +423,16 @@ same-mode Shared = refl
 -- ---- the agent in a packet: no other is anywhere
 pub rejected-carries : (o : Owner) (x : Bool) (t : Address) (b : Bool) (a : Agent) (m : Message) → flag b ≤ flag (not (fits o x t b a m)) + flag x
 unfolding fits
-rejected-carries o true t true a m = omega arith
-rejected-carries o true t false a m = omega arith
+rejected-carries o true t b a m = omega (arith, flag-le b)
 rejected-carries o false t true a m = simp and-false (omega arith)
 rejected-carries o false t false a m = omega arith
 
-pub vacant-here : (s : AgentSlot) → agentS s ≡ 0 → vacantS s ≡ 0
-vacant-here s e = absent s (absent-of s e) .vacantS
+rejected-below : (o : Owner) (qs : List Packet) → tally rejectedP qs ≤ tally (misfitP o) qs + tally agentP qs
+unfolding misfitP agentS
+rejected-below o qs = omega (arith, tally-le rejectedP (λ q. misfitP o q + agentP q) each qs, tally-add (misfitP o) agentP qs)
+  where
+    each : (q : Packet) → rejectedP q ≤ misfitP o q + agentP q
+    each q = rejected-carries o (q .carried .present) (q .to) (q .rejected) (q .carried .agent) (q .message)
 
 module _ (r : LockState) (p : Packet) (rest : List Packet) (i : Inv r) (sp : Split r (p ∷ []) rest) (h : agentP p ≡ 1) where
   pub alone : tally agentP rest + tally agentS (r .agents) ≡ 0
@@ -457,57 +440,39 @@ module _ (r : LockState) (p : Packet) (rest : List Packet) (i : Inv r) (sp : Spl
   alone = omega (arith, i .agent, owned-one (r .decider .owner), sp .parts agentP)
 
   pub no-others : tally rejectedP rest + tally vacantS (r .agents) ≡ 0
-  unfolding misfitP agentS tally
+  unfolding tally
   no-others =
-      omega (
-        arith,
-        alone,
-        tally-none agentS vacantS vacant-here (r .agents) (omega (arith, alone)),
-        tally-le rejectedP (λ q. misfitP (r .decider .owner) q + agentP q)
-            (λ q. rejected-carries (r .decider .owner) (q .carried .present) (q .to) (q .rejected) (q .carried .agent) (q .message)) rest,
-        tally-add (misfitP (r .decider .owner)) agentP rest,
-        i .fitting,
-        sp .parts (misfitP (r .decider .owner)),
-      )
+      let o : Owner = r .decider .owner in
+      let vacant = tally-none agentS vacantS (λ s e. zero-of s e .vacantS) (r .agents) (omega (arith, alone)) in
+      omega (arith, alone, vacant, rejected-below o rest, i .fitting, sp .parts (misfitP o))
 
   pub differ : incarnationP p < 256 → (incarnationP p ≡ r .decider .incarnation → ⊥) → 1 ≤ tally markP (packets (r .wire))
   unfolding weight tally
-  differ s n =
-      omega (
-        arith,
-        s,
-        n,
-        i .incs,
-        sp .parts incarnationP,
-        tally-none agentP incarnationP (λ q. inc-zero (q .carried)) rest (omega (arith, alone)),
-        tally-none agentS incarnationS inc-zero (r .agents) (omega (arith, alone)),
-      )
+  differ s n = omega (arith, s, n, i .incs, sp .parts incarnationP, no-incs rest (r .agents) alone)
+
+  pub silent-equal : incarnationP p ≡ r .decider .incarnation → tally markP (packets (r .wire)) ≡ 0
+  unfolding weight tally
+  silent-equal e = omega (arith, i .incs, marks-bound r i, sp .parts incarnationP, no-incs rest (r .agents) alone)
 
 -- ---- the agent at home: no packet carries one, no other machine has one
 module _ (r : LockState) (i : Inv r) (k : ℕ) (kk : k < machines) (a : Agent) (es : slotAt r k ≡ someAgent a) where
+  room : k < length (r .agents)
+  room = omega (arith, i .all-machines)
+
   pub none-away : tally agentP (packets (r .wire)) ≡ 0
   unfolding weight agentS
-  none-away = omega (arith, i .agent, owned-one (r .decider .owner), rw es at (tally-at agentS noAgent (r .agents) k (omega (arith, i .all-machines))))
+  none-away = omega (arith, i .agent, owned-one (r .decider .owner), rw es at (tally-at agentS noAgent (r .agents) k room))
 
   pub none-rejected : tally rejectedP (packets (r .wire)) ≡ 0
-  unfolding misfitP agentS
-  none-rejected =
-      omega (
-        arith,
-        none-away,
-        tally-le rejectedP (λ q. misfitP (r .decider .owner) q + agentP q)
-            (λ q. rejected-carries (r .decider .owner) (q .carried .present) (q .to) (q .rejected) (q .carried .agent) (q .message)) (packets (r .wire)),
-        tally-add (misfitP (r .decider .owner)) agentP (packets (r .wire)),
-        i .fitting,
-      )
+  none-rejected = omega (arith, none-away, rejected-below (r .decider .owner) (packets (r .wire)), i .fitting)
 
   -- where the machine gets a slot that is not vacant, no agent is
   pub none-vacant : (s : AgentSlot) → vacantS s ≡ 0 → agentS s ≡ 1 → tally vacantS (set (r .agents) k s) ≡ 0
   unfolding weight agentS vacantS noAgent
   none-vacant s v h =
-      let room : k < length (r .agents) = omega (arith, i .all-machines) in
-      let th : tally agentS (r .agents) ≡ 1 = omega (arith, i .agent, owned-one (r .decider .owner), rw es at (tally-at agentS noAgent (r .agents) k room)) in
-      let rs : tally vacantS (set (r .agents) k noAgent) ≡ 0 = tally-none agentS vacantS vacant-here (set (r .agents) k noAgent) (omega (arith, rw es at (tally-set agentS noAgent (r .agents) k noAgent room))) in
+      let th : tally agentS (r .agents) ≤ 1 = omega (arith, i .agent, owned-one (r .decider .owner)) in
+      let rest : tally agentS (set (r .agents) k noAgent) ≡ 0 = omega (arith, rw es at (tally-set agentS noAgent (r .agents) k noAgent room)) in
+      let rs : tally vacantS (set (r .agents) k noAgent) ≡ 0 = tally-none agentS vacantS (λ s e. zero-of s e .vacantS) _ rest in
       omega (arith, rs, v, rw es at (tally-set vacantS noAgent (r .agents) k s room), rw es at (tally-set vacantS noAgent (r .agents) k noAgent room))
 
 pub one-self : (c : ClientId) → one (c .0) c ≡ 1
@@ -519,33 +484,45 @@ pub lists-one : (r : LockState) (i : Inv r) (d : ℕ) → weight (listedP d) (li
 lists-one r i d = omega (arith, i .holds d, statuses (statusAt r d), asks r i d Exclusive, asks r i d Shared, owes-list d (packets (r .wire)), i .rels d)
 
 -- who asks is neither listed nor marked
-pub asker-unlisted : {r : LockState} {rest : List Packet} {c : ClientId} {n : Mode} (p : Packet) → Inv r → p .message ≡ Acquire c n false → Split r (p ∷ []) rest
-    → weight (listedP (c .0)) (listedS (c .0)) r ≡ 0
+pub asker-unlisted : {r : LockState} {rest : List Packet} {c : ClientId} {n : Mode} (p : Packet) → Inv r → p .message ≡ Acquire c n false
+    → Split r (p ∷ []) rest → weight (listedP (c .0)) (listedS (c .0)) r ≡ 0
 unfolding tally askM owedM releaseM
 asker-unlisted {r} {rest} {c} {n} p i e sp =
-    omega (
-      arith,
-      i .holds (c .0),
-      statuses (statusAt r (c .0)),
-      asks r i (c .0) Exclusive,
-      asks r i (c .0) Shared,
-      rw e at (sp .parts (λ q. askM (c .0) Exclusive (q .message))),
-      rw e at (sp .parts (λ q. askM (c .0) Shared (q .message))),
-      hits (c .0) c n,
-      one-self c,
-      owes-list (c .0) rest,
-      rw e at (sp .parts (owedP (c .0))),
-      rw e at (sp .parts (releaseP (c .0))),
-      i .rels (c .0),
-    )
+    let exclusive = rw e at (sp .parts (λ q. askM (c .0) Exclusive (q .message))) in
+    let shared = rw e at (sp .parts (λ q. askM (c .0) Shared (q .message))) in
+    let owed = rw e at (sp .parts (owedP (c .0))) in
+    let released = rw e at (sp .parts (releaseP (c .0))) in
+    let counts = asks r i (c .0) in
+    let status = statuses (statusAt r (c .0)) in
+    omega (arith, i .holds (c .0), counts Exclusive, counts Shared, hits (c .0) c n, one-self c, owes-list (c .0) rest, i .rels (c .0))
 
--- a client that joins the holders
-pub joins-fits : (a : Agent) (o : Owner) (k c n : ℕ) → Home o k a → a .mode ≡ Shared → n < 256 → Home o k (changed a (set (a .holders) c true) (a .queue) n)
-joins-fits a o k c n h m s =
-    record { at = h .at; mode = h .mode; sized = length-set (a .holders) c true ∙ h .sized; few = rw m; small = s }
+-- a client that no agent lists joins the holders of the agent a, whose incarnation is n then
+abbrev pub joins : Agent → ClientId → ℕ → AgentSlot
+joins a c n = someAgent (changed a (set (a .holders) (c .0) true) (a .queue) n)
 
-pub joins-heads : (hs : List Bool) (c : ℕ) → c < length hs → tally flag (set hs c true) ≡ 0 → ⊥
-joins-heads hs c h z = omega (arith, z, tally-set flag false hs c true h, tally-at flag false hs c h)
+module _ {r : LockState} {k : ℕ} {a : Agent} (i : Inv r) (kk : k < machines) (es : slotAt r k ≡ someAgent a) (c : ClientId) (cl : c .0 < clients) (n : ℕ) where
+  home : Home (r .decider .owner) k a
+  home = slot-home r k a i es
+
+  below : c .0 < length (a .holders)
+  below = omega (arith, home .sized)
+
+  pub joins-fits : a .mode ≡ Shared → n < 256 → misfitS (r .decider .owner) k (joins a c n) ≡ 0
+  joins-fits m s =
+      home-fits (r .decider .owner) k _
+      (record { at = home .at; mode = home .mode; sized = length-set (a .holders) (c .0) true ∙ home .sized; few = rw m; small = s })
+
+  pub joins-listed : tally (listedS (c .0)) (r .agents) ≡ 0 → (d : ℕ) → listedS d (joins a c n) ≡ listedS d (someAgent a) + one d c
+  unfolding listedS one
+  joins-listed z d =
+      let un = rw es at (tally-at (listedS (c .0)) noAgent (r .agents) k (omega (arith, i .all-machines))) in
+      list-on (a .holders) (c .0) d below (omega (arith, z, un))
+
+  pub joins-busy : vacantS (joins a c n) ≡ 0
+  unfolding vacantS
+  joins-busy =
+      let here = tally-set flag false (a .holders) (c .0) true below in
+      rw (ne-eqb (tally flag (set (a .holders) (c .0) true)) 0 (λ z. omega (arith, z, tally-at flag false (a .holders) (c .0) below)))
 
 pub few-zero : (m : Mode) → few m 0 ≡ true
 few-zero Exclusive = refl
@@ -558,7 +535,8 @@ drop-last true false c d e = e
 drop-last false b c d e = e
 
 -- who has a GRANT on the wire waits, in its mode
-pub grant-waits : {r : LockState} {rest : List Packet} {c : ClientId} {n : Mode} (p : Packet) → Inv r → p .message ≡ Grant c n → Split r (p ∷ []) rest → statusAt r (c .0) ≡ Waiting n
+pub grant-waits : {r : LockState} {rest : List Packet} {c : ClientId} {n : Mode} (p : Packet) → Inv r → p .message ≡ Grant c n → Split r (p ∷ []) rest
+    → statusAt r (c .0) ≡ Waiting n
 unfolding weight tally askM
 grant-waits {r} {rest} {c} {n} p i e sp =
     waiting-is n _ (omega (arith, i .waits (c .0) n, rw e at (sp .parts (waitingP (c .0) n)), hit-self c n, waits-one n (statusAt r (c .0))))
@@ -571,9 +549,7 @@ unshared (Owned Shared k) Exclusive e f = absurd (false≢true f)
 unshared (Owned Shared k) Shared e f = absurd (true≢false e)
 
 -- a rejected packet on the wire carries an agent
-pub rejected-carries-one : (r : LockState) (i : Inv r) (rest : List Packet) (p : Packet) → Split r (p ∷ []) rest → p .carried .present ≡ false → p .rejected ≡ true → ⊥
-unfolding misfitP
-rejected-carries-one r i rest p sp e f =
-    let g : flag (p .rejected) ≤ flag (not (fitsP (r .decider .owner) p)) + flag (p .carried .present) =
-    rejected-carries (r .decider .owner) (p .carried .present) (p .to) (p .rejected) (p .carried .agent) (p .message) in
-    omega (arith, came-fits r rest p i sp, g, ap flag e, ap flag f)
+pub rejected-carries-one : (r : LockState) (i : Inv r) (rest : List Packet) (p : Packet) → Split r (p ∷ []) rest → p .carried .present ≡ false
+    → p .rejected ≡ true → ⊥
+unfolding tally agentS
+rejected-carries-one r i rest p sp e f = omega (arith, came-fits r rest p i sp, rejected-below (r .decider .owner) (p ∷ []), ap flag e, ap flag f)

@@ -5,12 +5,11 @@ use Rattle.theorems.specs.Names.{Message, Free, Acquire, Grant, Release,
 use Rattle.theorems.specs.Names.{true≢false, false≢true, List, [], _∷_, _++_, map, ℕ, _+_, _*_, _≤_, _<_, arith, length, getD, set, length-append}
 use Rattle.theorems.specs.Names.{List·getD-eq-default, set-getD, ltb, eqb-true, eq-eqb, ltb-true, ltb-false, pick, removed, machineOf, isShared, newAgent}
 use Rattle.theorems.specs.Names.{someAgent, agentOn, listed, statusOf, plain, waiters, noAgent, packets, Site, siteOf, withSlot, withStatus, cannot-place}
-use Rattle.theorems.specs.Names.{does, apply, queuing, noRoom, withRoom, mayJoin, anyHolder, without, lists, handOver, staysIf, leaves, clientReleases}
-use Rattle.theorems.specs.Names.{current, toOwner, decidesAcquire, decidesFree, decidesGrant, decides, atDecider, sendsBack, grantOf, installed, requeued}
-use Rattle.theorems.specs.Names.{admitted, staying, joined, installs, grantArrives, rejectedGrantArrives, marked, unmarked, acquireArrives}
-use Rattle.theorems.specs.Names.{releaseArrives, freeArrives, arrives, atMachine, machineAt, clientNamed, delivers, releaseStep, takes, deliverStep}
-use Rattle.theorems.specs.Names.{and-left, and-right, bool-cases, packets-of, waiters-of, clients, idle, mayShare, slotIn, inParts, passesOn, unowned}
-use Rattle.theorems.specs.Names.{withDecider, rejects, shares, resent}
+use Rattle.theorems.specs.Names.{apply, queuing, noRoom, mayJoin, anyHolder, without, lists, handOver, staysIf, leaves, clientReleases, current, toOwner}
+use Rattle.theorems.specs.Names.{decidesAcquire, decidesFree, decidesGrant, decides, atDecider, sendsBack, grantOf, installed, requeued, admitted}
+use Rattle.theorems.specs.Names.{staying, joined, installs, grantArrives, rejectedGrantArrives, marked, unmarked, acquireArrives, releaseArrives}
+use Rattle.theorems.specs.Names.{freeArrives, arrives, atMachine, machineAt, clientNamed, delivers, releaseStep, takes, deliverStep, and-left, and-right}
+use Rattle.theorems.specs.Names.{bool-cases, packets-of, waiters-of, clients, idle, mayShare, slotIn, inParts, resent, Verdict}
 use Rattle.theorems.specs.Tally.{flag, tally, tally-one, tally-set, tally-length}
 use Rattle.theorems.specs.Weights.{statusAt, slotAt, heads, holdF, ownedAt}
 use Rattle.theorems.specs.Invariant.{Inv}
@@ -18,7 +17,7 @@ use Rattle.theorems.specs.InvariantStep.{Split, Still, still}
 use Rattle.theorems.specs.Facts.{Request, acquire-of, release-of, rejected-carries-one, wire-bound}
 use Rattle.theorems.specs.Sent.{Good}
 use Rattle.theorems.specs.Waiters.{parted, grants-count}
-use Rattle.theorems.specs.Clients.{good-client-releases}
+use Rattle.theorems.specs.Clients.{split-none, good-client-releases}
 use Rattle.theorems.specs.Steps.{verdict, good-deliver, Says, says-by, after-step}
 use Rattle.theorems.specs.Statements.{provedBound}
 use Rattle.theorems.specs.Work.{workM, workS, workP, work, tally-set-le, work-none, work-after, work-bound}
@@ -63,7 +62,8 @@ tally-threes [] = refl
 tally-threes (x ∷ xs) = omega (arith, tally-threes xs)
 
 -- an agent is installed: its client joins the holders, and each waiter that leaves the queue has a GRANT for its place there
-installed-work : (n : Mode) (c : ClientId) (a : Agent) → workS (someAgent (installed n c a)) + tally workP (map grantOf (admitted n (waiters (a .queue)))) ≤ workS (someAgent a) + 2
+installed-work : (n : Mode) (c : ClientId) (a : Agent)
+    → workS (someAgent (installed n c a)) + tally workP (map grantOf (admitted n (waiters (a .queue)))) ≤ workS (someAgent a) + 2
 unfolding workS
 installed-work n c a =
     let ws = waiters (a .queue) in
@@ -99,7 +99,8 @@ send-hops : (n : Mode) (k : MachineId) (t : Bool) → pick t 1 3 ≤ 2 → pick 
 send-hops n k true h = rw (eq-eqb (k .0) (k .0) refl) (omega arith)
 send-hops n k false h = absurd (omega arith)
 
-back-hops : (o : Owner) (j : MachineId) (t : Bool) → (ownedAt o (j .0) ≡ true → t ≡ false) → pick t (route o (ToMachine j)) 3 ≤ 2 → pick t 1 3 < pick t (route o (ToMachine j)) 3
+back-hops : (o : Owner) (j : MachineId) (t : Bool) → (ownedAt o (j .0) ≡ true → t ≡ false) → pick t (route o (ToMachine j)) 3 ≤ 2
+    → pick t 1 3 < pick t (route o (ToMachine j)) 3
 back-hops o j false f h = absurd (omega arith)
 back-hops o j true f h = bool-cases (ownedAt o (j .0)) (λ q. absurd (true≢false (f q))) (λ q. rw q (omega arith))
 
@@ -113,11 +114,18 @@ served-at Unowned xs j e q = absurd (false≢true q)
 served-at (Owned m k) xs j e q = at-home (λ y. y .present) (Owned m k) xs j e q
 
 module _ (r : LockState) (rest : List Packet) where
+  abbrev o : Owner
+  o = r .decider .owner
+
+  -- the delivery of q, about machine k and client c, comes to w
+  abbrev Moved : MachineId → ClientId → Packet → Verdict → Type 0
+  Moved k c q w = Split r (q ∷ []) rest → Says (Moves r k c q rest) w
+
   -- the step's own parts say that the work falls
-  lowered : (k : MachineId) (c : ClientId) (p : Packet) (v : Site) (qs : List Packet) → Split r (p ∷ []) rest
+  lowered : {k : MachineId} {c : ClientId} {p : Packet} {v : Site} {qs : List Packet} → Split r (p ∷ []) rest
       → tally workP qs + workS (v .slot) + 2 * holdF (v .status) < workP p + workS (slotAt r (k .0)) + 2 * holdF (statusAt r (c .0))
       → Moves r k c p rest v qs
-  lowered k c p v qs sp h = lowers (omega (arith, work-after r k c v (p ∷ []) qs rest sp, tally-one workP p))
+  lowered {k} {c} {p} {v} {qs} sp h = lowers (omega (arith, work-after r k c v (p ∷ []) qs rest sp, tally-one workP p))
 
   -- ---- at the decider: a step about machine j and client u, for the packet p
   module _ (j : MachineId) (u : ClientId) (p : Packet) where
@@ -128,31 +136,31 @@ module _ (r : LockState) (rest : List Packet) where
     abbrev came : Message → Bool → Packet
     came m x = inParts m ToDecider (p .rejected) x p
 
-    sent-on : {c : ClientId} {n : Message} {v : Site} → Still r j u v → (x : Bool) (m : Mode) (k : MachineId) → Request c n → r .decider .owner ≡ Owned m k
+    sent-on : {c : ClientId} {n : Message} {v : Site} → Still r j u v → (x : Bool) (m : Mode) (k : MachineId) → Request c n → o ≡ Owned m k
         → Says (Moves r j u (came n x) rest) (toOwner (Owned m k) v (came n x))
     unfolding toOwner workM hopsM
     sent-on st x m k (acquire-of {g = true}) e = passes _ st refl refl (rw e (send-hops m k (slotAt r (k .0) .present)))
     sent-on st x m k (acquire-of {g = false}) e = passes _ st refl refl (rw e (send-hops m k (slotAt r (k .0) .present)))
     sent-on {c} st x m k release-of e = passes _ st refl refl (rw e (send-hops m k (lists (slotAt r (k .0)) c)))
 
-    moves-decides : (m : Message) (o : Owner) (x : Bool) → r .decider .owner ≡ o → Split r (came m x ∷ []) rest → Says (Moves r j u (came m x) rest) (decides m o site (came m x))
-    unfolding decides decidesAcquire decidesFree decidesGrant
-    moves-decides (Acquire c n false) Unowned x e sp = lowered j u _ _ _ sp (unfold workM tally in omega (arith, work-new n))
-    moves-decides (Acquire c n true) Unowned x e sp = unfold toOwner in tt
+    moves-decides : (m : Message) (w : Owner) (x : Bool) → o ≡ w → Moved j u (came m x) (decides m w site (came m x))
+    unfolding decides decidesAcquire decidesFree decidesGrant toOwner workM workS tally hopsM
+    moves-decides (Acquire c n false) Unowned x e sp = lowered sp (omega (arith, work-new n))
+    moves-decides (Acquire c n true) Unowned x e sp = tt
     moves-decides (Acquire c n true) (Owned m k) x e sp = sent-on (still refl) x m k acquire-of e
     moves-decides (Acquire c n false) (Owned m k) x e sp =
-        says-by (Moves r j u (came (Acquire c n false) x) rest) (mayShare site n) (shares site c k) (toOwner (Owned m k) site (came (Acquire c n false) x))
-        (lowered j u _ _ _ sp (unfold workM tally in omega (arith, work-plain (Grant c Shared) (ToMachine (machineOf c)), work-plain (Acquire c Shared true) (ToMachine k))))
+        let grant = work-plain (Grant c Shared) (ToMachine (machineOf c)) in
+        says-by _ (mayShare site n) _ _ (lowered sp (omega (arith, work-plain (Acquire c Shared true) (ToMachine k))))
         (sent-on (still refl) x m k acquire-of e)
-    moves-decides (Release c) Unowned x e sp = unfold toOwner in tt
+    moves-decides (Release c) Unowned x e sp = tt
     moves-decides (Release c) (Owned m k) x e sp = sent-on (still refl) x m k release-of e
-    moves-decides (Grant c n) o false e sp = passes _ (still refl) refl (unfold workM in refl) (unfold hopsM in λ h. omega arith)
+    moves-decides (Grant c n) w false e sp = passes _ (still refl) refl refl (λ h. omega arith)
     moves-decides (Grant c n) Unowned true e sp = tt
     moves-decides (Grant c n) (Owned m k) true e sp =
-        says-by (Moves r j u (came (Grant c n) true) rest) (current (r .decider) (came (Grant c n) true)) (passesOn site c n (p .carried .agent)) (rejects site (came (Grant c n) true) k) (lowered j u _ _ _ sp (unfold workM tally workS in omega arith)) (lowered j u _ _ _ sp (unfold workM tally in omega arith))
+        says-by _ (current (r .decider) (came (Grant c n) true)) _ _ (lowered sp (omega arith)) (lowered sp (omega arith))
     moves-decides Free Unowned x e sp = tt
     moves-decides Free (Owned m k) x e sp =
-        says-by (Moves r j u (came Free x) rest) (current (r .decider) (came Free x)) (does (withDecider site unowned) []) (rejects site (came Free x) k) (lowered j u _ _ _ sp (unfold workM tally in omega arith)) (lowered j u _ _ _ sp (unfold workM tally in omega arith))
+        says-by _ (current (r .decider) (came Free x)) _ _ (lowered sp (omega arith)) (lowered sp (omega arith))
 
   -- ---- at machine k, for the packet p
   module _ (k : MachineId) (p : Packet) where
@@ -165,80 +173,74 @@ module _ (r : LockState) (rest : List Packet) where
     arrived m b x = inParts m (ToMachine k) b x p
 
     -- the slot there is old
-    slot-lowers : (old : AgentSlot) (c : ClientId) (q : Packet) (v : Site) (qs : List Packet) → slotAt r (k .0) ≡ old → Split r (q ∷ []) rest
+    slot-lowers : {old : AgentSlot} {c : ClientId} {q : Packet} {v : Site} {qs : List Packet} → slotAt r (k .0) ≡ old → Split r (q ∷ []) rest
         → tally workP qs + workS (v .slot) + 2 * holdF (v .status) < workP q + workS old + 2 * holdF (statusAt r (c .0)) → Moves r k c q rest v qs
-    slot-lowers old c q v qs es sp h = lowered k c q v qs sp (rw es h)
+    slot-lowers es sp h = lowered sp (rw es h)
 
     back-acquire : (old : AgentSlot) (c : ClientId) (n : Mode) (g b x : Bool) → slotAt r (k .0) ≡ old → old .present ≡ false
         → Says (Moves r k c (arrived (Acquire c n g) b x) rest) (sendsBack (seen old c) (arrived (Acquire c n g) b x))
     unfolding workM hopsM
-    back-acquire old c n true b x es e = passes _ (still es) refl refl (back-hops (r .decider .owner) k _ (served-at (r .decider .owner) (r .agents) (k .0) (rw es e)))
-    back-acquire old c n false b x es e = passes _ (still es) refl refl (back-hops (r .decider .owner) k _ (served-at (r .decider .owner) (r .agents) (k .0) (rw es e)))
+    back-acquire old c n true b x es e = passes _ (still es) refl refl (back-hops o k _ (served-at o (r .agents) (k .0) (rw es e)))
+    back-acquire old c n false b x es e = passes _ (still es) refl refl (back-hops o k _ (served-at o (r .agents) (k .0) (rw es e)))
 
     back-release : (old : AgentSlot) (c : ClientId) (b x : Bool) → slotAt r (k .0) ≡ old → lists old c ≡ false
         → Says (Moves r k c (arrived (Release c) b x) rest) (sendsBack (seen old c) (arrived (Release c) b x))
     unfolding workM hopsM
-    back-release old c b x es e = passes _ (still es) refl refl (back-hops (r .decider .owner) k _ (at-home (λ y. lists y c) (r .decider .owner) (r .agents) (k .0) (rw es e)))
-
-    -- a client that would join a queue finds room there, or the step is refused
-    roomy : (q : Packet) (s : Agent) (c : ClientId) (v : Site) (qs : List Packet) → Moves r k c q rest v qs → Says (Moves r k c q rest) (withRoom s c (does v qs))
-    roomy q s c v qs h = says-by _ (noRoom s c) cannot-place (does v qs) tt h
+    back-release old c b x es e = passes _ (still es) refl refl (back-hops o k _ (at-home (λ y. lists y c) o (r .agents) (k .0) (rw es e)))
 
     queued-work : (s : Agent) (c : ClientId) (n : Mode) → workS (someAgent (queuing s c n)) ≡ workS (someAgent s) + 5
     unfolding workS
-    queued-work s c n = rw (waiters-of (waiters (s .queue) ++ record { client = c; mode = n } ∷ []), length-append (waiters (s .queue)) (record { client = c; mode = n } ∷ [])) (omega arith)
+    queued-work s c n =
+        let last : List Waiter = record { client = c; mode = n } ∷ [] in
+        rw (waiters-of (waiters (s .queue) ++ last), length-append (waiters (s .queue)) last) (omega arith)
 
     requeued-work : (s : Agent) (c : ClientId) (n : Mode) → workS (someAgent (requeued s c n)) ≡ workS (someAgent s) + 5
     unfolding workS
     requeued-work s c n = rw (waiters-of (record { client = c; mode = n } ∷ waiters (s .queue))) (omega arith)
 
-    moves-acquire-arrives : (here : Bool) (s : Agent) (c : ClientId) (n : Mode) (g b x : Bool) → slotAt r (k .0) ≡ record { present = here; agent = s } → Split r (arrived (Acquire c n g) b x ∷ []) rest
-        → Says (Moves r k c (arrived (Acquire c n g) b x) rest) (acquireArrives here (seen (record { present = here; agent = s }) c) s (arrived (Acquire c n g) b x) c n g)
+    moves-acquire-arrives : (here : Bool) (s : Agent) (c : ClientId) (n : Mode) (g b x : Bool) → slotAt r (k .0) ≡ record { present = here; agent = s }
+        → Moved k c (arrived (Acquire c n g) b x) (acquireArrives here (seen (record { present = here; agent = s }) c) s (arrived (Acquire c n g) b x) c n g)
     unfolding acquireArrives marked unmarked workM workS tally
     moves-acquire-arrives false s c n g b x es sp = back-acquire _ c n g b x es refl
-    moves-acquire-arrives true s c n true b x es sp = says-by _ (isShared (s .mode)) _ _ (slot-lowers (someAgent s) c _ _ _ es sp (omega (arith, heads-join (s .holders) (c .0)))) tt
+    moves-acquire-arrives true s c n true b x es sp = says-by _ (isShared (s .mode)) _ _ (slot-lowers es sp (omega (arith, heads-join (s .holders) (c .0)))) tt
     moves-acquire-arrives true s c n false b x es sp =
         says-by _ (mayJoin (seen (someAgent s) c) n) _ _
-        (slot-lowers (someAgent s) c _ _ _ es sp (omega (arith, heads-join (s .holders) (c .0), work-plain (Grant c n) ToDecider)))
-        (roomy _ s c _ _ (slot-lowers (someAgent s) c _ (seen (someAgent (queuing s c n)) c) _ es sp (omega (arith, queued-work s c n))))
+        (slot-lowers es sp (omega (arith, heads-join (s .holders) (c .0), work-plain (Grant c n) ToDecider)))
+        (says-by _ (noRoom s c) cannot-place _ tt (slot-lowers es sp (omega (arith, queued-work s c n))))
 
     moves-grant-arrives : (here : Bool) (s : Agent) (c : ClientId) (n : Mode) (x : Bool) → slotAt r (k .0) ≡ record { present = here; agent = s }
-        → Split r (arrived (Grant c n) false x ∷ []) rest
-        → Says (Moves r k c (arrived (Grant c n) false x) rest) (grantArrives here x (seen (record { present = here; agent = s }) c) (p .carried .agent) c n)
+        → Moved k c (arrived (Grant c n) false x) (grantArrives here x (seen (record { present = here; agent = s }) c) (p .carried .agent) c n)
     unfolding grantArrives workM workS tally holdF installs
-    moves-grant-arrives here s c n false es sp = slot-lowers _ c _ _ _ es sp (omega arith)
+    moves-grant-arrives here s c n false es sp = slot-lowers es sp (omega arith)
     moves-grant-arrives true s c n true es sp = tt
-    moves-grant-arrives false s c n true es sp = slot-lowers _ c _ _ _ es sp (omega (arith, installed-work n c (p .carried .agent)))
+    moves-grant-arrives false s c n true es sp = slot-lowers es sp (omega (arith, installed-work n c (p .carried .agent)))
 
     moves-rejected-arrives : (here : Bool) (s : Agent) (c : ClientId) (n : Mode) → slotAt r (k .0) ≡ record { present = here; agent = s }
-        → Split r (arrived (Grant c n) true true ∷ []) rest
-        → Says (Moves r k c (arrived (Grant c n) true true) rest) (rejectedGrantArrives here (seen (record { present = here; agent = s }) c) (p .carried .agent) c n)
+        → Moved k c (arrived (Grant c n) true true) (rejectedGrantArrives here (seen (record { present = here; agent = s }) c) (p .carried .agent) c n)
     unfolding rejectedGrantArrives workM workS tally
     moves-rejected-arrives true s c n es sp = tt
     moves-rejected-arrives false s c n es sp =
-        let a : Agent = p .carried .agent in
-        roomy _ a c _ _ (slot-lowers _ c _ (seen (someAgent (requeued a c n)) c) _ es sp (omega (arith, requeued-work a c n)))
+        says-by _ (noRoom (p .carried .agent) c) cannot-place _ tt (slot-lowers es sp (omega (arith, requeued-work (p .carried .agent) c n)))
 
-    moves-release-arrives : (y : AgentSlot) (c : ClientId) (b x : Bool) → slotAt r (k .0) ≡ y → Split r (arrived (Release c) b x ∷ []) rest
-        → Says (Moves r k c (arrived (Release c) b x) rest) (releaseArrives (seen y c) (arrived (Release c) b x) c)
+    moves-release-arrives : (y : AgentSlot) (c : ClientId) (b x : Bool) → slotAt r (k .0) ≡ y
+        → Moved k c (arrived (Release c) b x) (releaseArrives (seen y c) (arrived (Release c) b x) c)
     unfolding releaseArrives workM
-    moves-release-arrives y c b x es sp = go (lists y c) refl
-      where
-        go : (t : Bool) → lists y c ≡ t → Says (Moves r k c (arrived (Release c) b x) rest) (pick t (leaves (seen y c) (y .agent) c) (sendsBack (seen y c) (arrived (Release c) b x)))
-        go true q =
-            left-says _ (seen y c) (y .agent) c (and-right (y .present) _ q)
-            (λ w qs e h. slot-lowers (someAgent (y .agent)) c _ w qs (es ∙ some-agent-is y (and-left (y .present) _ q)) sp (rw e (omega (arith, h))))
-        go false q = back-release y c b x es q
+    moves-release-arrives y c b x es sp =
+        bool-cases (lists y c)
+        (λ q. rw q
+        (left-says _ (seen y c) (y .agent) c (and-right (y .present) _ q)
+        (λ w qs e h. slot-lowers (es ∙ some-agent-is y (and-left (y .present) _ q)) sp (rw e (omega (arith, h))))))
+        (λ q. rw q (back-release y c b x es q))
 
-    moves-free-arrives : (here : Bool) (s : Agent) (c : ClientId) (b x : Bool) → slotAt r (k .0) ≡ record { present = here; agent = s } → Split r (arrived Free b x ∷ []) rest
-        → Says (Moves r k c (arrived Free b x) rest) (freeArrives here (seen (record { present = here; agent = s }) c) (slotIn x p))
+    moves-free-arrives : (here : Bool) (s : Agent) (c : ClientId) (b x : Bool) → slotAt r (k .0) ≡ record { present = here; agent = s }
+        → Moved k c (arrived Free b x) (freeArrives here (seen (record { present = here; agent = s }) c) (slotIn x p))
     unfolding freeArrives workM tally
     moves-free-arrives true s c b x es sp = tt
-    moves-free-arrives false s c b x es sp = slot-lowers _ c _ _ _ es sp (omega arith)
+    moves-free-arrives false s c b x es sp = slot-lowers es sp (omega arith)
 
     -- what is rejected carries an agent
-    moves-arrives : (m : Message) (b x : Bool) → (x ≡ false → b ≡ true → ⊥) → Split r (arrived m b x ∷ []) rest
-        → Says (Moves r k (clientNamed m) (arrived m b x) rest) (arrives m (siteOf r k (clientNamed m)) (arrived m b x))
+    moves-arrives : (m : Message) (b x : Bool) → (x ≡ false → b ≡ true → ⊥)
+        → Moved k (clientNamed m) (arrived m b x) (arrives m (siteOf r k (clientNamed m)) (arrived m b x))
     unfolding arrives
     moves-arrives (Acquire c n g) b x e sp = moves-acquire-arrives (agentOn r k .present) (agentOn r k .agent) c n g b x refl sp
     moves-arrives (Grant c n) false x e sp = moves-grant-arrives (agentOn r k .present) (agentOn r k .agent) c n x refl sp
@@ -247,17 +249,13 @@ module _ (r : LockState) (rest : List Packet) where
     moves-arrives (Release c) b x e sp = moves-release-arrives (agentOn r k) c b x refl sp
     moves-arrives Free b x e sp = moves-free-arrives (agentOn r k .present) (agentOn r k .agent) _ b x refl sp
 
-  moves-delivers : (p : Packet) (t : Address) → (p .carried .present ≡ false → p .rejected ≡ true → ⊥) → Split r (resent p t (p .rejected) ∷ []) rest
-      → Says (Moves r (machineAt t) (clientNamed (p .message)) (resent p t (p .rejected)) rest) (verdict r (resent p t (p .rejected)))
+  moves-delivers : (p : Packet) (t : Address) → (p .carried .present ≡ false → p .rejected ≡ true → ⊥)
+      → Moved (machineAt t) (clientNamed (p .message)) (resent p t (p .rejected)) (verdict r (resent p t (p .rejected)))
   unfolding delivers atDecider atMachine
   moves-delivers p ToDecider e sp = moves-decides _ (clientNamed (p .message)) p (p .message) (r .decider .owner) (p .carried .present) refl sp
   moves-delivers p (ToMachine k) e sp = moves-arrives k p (p .message) (p .rejected) (p .carried .present) e sp
 
 -- ---- a client that holds releases
-whole-wire : (r : LockState) → Split r [] (packets (r .wire))
-unfolding tally
-whole-wire r = record { parts = λ f. omega arith }
-
 module _ (r : LockState) (c : ClientId) (n : Mode) (h : statusOf r c ≡ Holding n) where
   abbrev home : Site
   home = siteOf r (machineOf c) c
@@ -266,25 +264,24 @@ module _ (r : LockState) (c : ClientId) (n : Mode) (h : statusOf r c ≡ Holding
   Less v qs = work (apply (machineOf c) c v qs (packets (r .wire)) r) < work r
 
   -- it is idle, and its machine's slot and the packets count for less than its holding did
-  less : (old : AgentSlot) (v : Site) (qs : List Packet) → agentOn r (machineOf c) ≡ old → v .status ≡ Idle → workS (v .slot) + tally workP qs < workS old + 2 → Less v qs
+  less : (old : AgentSlot) (v : Site) (qs : List Packet) → agentOn r (machineOf c) ≡ old → v .status ≡ Idle
+      → workS (v .slot) + tally workP qs < workS old + 2 → Less v qs
   unfolding Less tally holdF
   less old v qs es e w =
       let own : 2 * holdF (statusAt r (c .0)) ≡ 2 = rw h in
       let idle : 2 * holdF (v .status) ≡ 0 = rw e in
-      omega (arith, own, idle, w, rw es at (work-after r (machineOf c) c v [] qs (packets (r .wire)) (whole-wire r)))
+      omega (arith, own, idle, w, rw es at (work-after r (machineOf c) c v [] qs (packets (r .wire)) (split-none r)))
 
   release-lowers : Says Less (clientReleases home c)
   unfolding clientReleases tally
-  release-lowers = go (lists (agentOn r (machineOf c)) c) refl
-    where
-      go : (t : Bool) → lists (agentOn r (machineOf c)) c ≡ t
-          → Says Less (pick t (leaves (withStatus home Idle) (agentOn r (machineOf c) .agent) c) (does (withStatus home Idle) (plain (Release c) ToDecider ∷ [])))
-      go true q =
-          left-says _ (withStatus home Idle) (agentOn r (machineOf c) .agent) c (and-right (agentOn r (machineOf c) .present) _ q)
-          (λ w qs e l. less _ w qs (some-agent-is _ (and-left (agentOn r (machineOf c) .present) _ q)) e (omega (arith, l)))
-      go false q =
-          let w : workP (plain (Release c) ToDecider) ≡ 1 = work-plain (Release c) ToDecider ∙ unfold workM in refl in
-          less _ _ (plain (Release c) ToDecider ∷ []) refl refl (omega (arith, w))
+  release-lowers =
+      let x : AgentSlot = agentOn r (machineOf c) in
+      let one : workP (plain (Release c) ToDecider) ≡ 1 = work-plain (Release c) ToDecider ∙ unfold workM in refl in
+      bool-cases (lists x c)
+      (λ q. rw q
+      (left-says _ (withStatus home Idle) (x .agent) c (and-right (x .present) _ q)
+      (λ w qs e l. less _ w qs (some-agent-is _ (and-left (x .present) _ q)) e (omega (arith, l)))))
+      (λ q. rw q (less _ _ (plain (Release c) ToDecider ∷ []) refl refl (omega (arith, one))))
 
 -- ---- the rank: a step that leaves the work lowers the distance
 unfoldable pub rank : LockState → ℕ
@@ -299,15 +296,17 @@ unfolding rank dist
 less-work s r h = omega arith
 
 -- the first packet p goes to the wire's end as q
-sent-on-falls : (r : LockState) (p q : Packet) (ps : List Packet) → Inv r → packets (r .wire) ≡ p ∷ ps → workP q ≡ workP p → (hopsOf r p ≤ 2 → hopsOf r q < hopsOf r p)
-    → (k : MachineId) (c : ClientId) (v : Site) → Still r k c v → rank (apply k c v (q ∷ []) ps r) < rank r
+sent-on-falls : (r : LockState) (p q : Packet) (ps : List Packet) → Inv r → packets (r .wire) ≡ p ∷ ps → workP q ≡ workP p
+    → (hopsOf r p ≤ 2 → hopsOf r q < hopsOf r p) → (k : MachineId) (c : ClientId) (v : Site) → Still r k c v → rank (apply k c v (q ∷ []) ps r) < rank r
 unfolding rank dist tally
 sent-on-falls r p q ps i e w h k c v st =
     let sp : Split r (p ∷ []) ps = record { parts = λ f. rw e (omega arith) } in
     let t : hopsOf r q ≤ 3 = hops-three (r .decider .owner) (homeIn (r .decider .owner) (r .agents)) (q .carried .present) (q .to) (q .message) in
     let far : leastOf r < rounds = least-bound r i p ps e in
-    let same : leastOf (apply k c v (q ∷ []) ps r) ≡ least (hopsOf r) (ps ++ q ∷ []) = rw (st .owner, st .slot, set-getD (r .agents) (k .0) noAgent, packets-of (ps ++ q ∷ [])) in
-    let less : least (hopsOf r) (ps ++ q ∷ []) < leastOf r = rw e (least-falls (hopsOf r) p q ps t h (omega (arith, wire-bound r i, ap length e)) (rw e at far)) in
+    let same : leastOf (apply k c v (q ∷ []) ps r) ≡ least (hopsOf r) (ps ++ q ∷ []) =
+    rw (st .owner, st .slot, set-getD (r .agents) (k .0) noAgent, packets-of (ps ++ q ∷ [])) in
+    let room = wire-bound r i in
+    let less : least (hopsOf r) (ps ++ q ∷ []) < leastOf r = rw e (least-falls (hopsOf r) p q ps t h (omega (arith, ap length e)) (rw e at far)) in
     omega (arith, far, same, less, ap workS (st .slot), ap holdF (st .status), work-after r k c v (p ∷ []) (q ∷ []) ps sp, w)
 
 pub deliver-falls : (r : LockState) → Inv r → (p : Packet) (ps : List Packet) → packets (r .wire) ≡ p ∷ ps → rank (deliverStep r 0 .state) < rank r

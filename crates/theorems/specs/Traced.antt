@@ -3,20 +3,20 @@ use Rattle.laws.specs.CallSteps.{lockOf, stepOf, Allowed, may-acquire, may-rele
 use Rattle.theorems.specs.Names.{LockId, MachineId, ClientId, Mode, Owner, Unowned, Owned, Agent, AgentSlot, Address, ToDecider, ToMachine, Message, Free}
 use Rattle.theorems.specs.Names.{Acquire, Grant, Release, Packet, Status, Idle, Waiting, Holding, ClientState, LockState, Cluster, Call, AcquireCall}
 use Rattle.theorems.specs.Names.{ReleaseCall, DeliverCall, WireFull, _≡_, refl, sym, ap, _∙_, Bool, true, false, _&&_, not, and-false, List, [], _∷_, ℕ}
-use Rattle.theorems.specs.Names.{_+_, _<_, arith, ℕ-discrete, length, getD, set-getD, getD-set-same, getD-set-other, leb, eq-eqb, ne-eqb, pick, any}
-use Rattle.theorems.specs.Names.{removed, clientOf, machineOf, modeOf, isShared, someAgent, agentOn, listed, idle, statusOf, plain, lockIn, noAgent}
-use Rattle.theorems.specs.Names.{packets, Verdict, cannot-place, does, Site, siteOf, withSlot, withStatus, apply, accepted, finish, anyHolder, without}
-use Rattle.theorems.specs.Names.{staysIf, joining, queuing, noRoom, mayJoin, lists, clientAsks, clientAcquires, clientReleases, current, toOwner}
-use Rattle.theorems.specs.Names.{decidesAcquire, decidesFree, decidesGrant, decides, atDecider, installs, grantArrives, rejectedGrantArrives, marked}
-use Rattle.theorems.specs.Names.{unmarked, acquireArrives, releaseArrives, freeArrives, arrives, atMachine, names, machineAt, clientNamed, packetAt}
-use Rattle.theorems.specs.Names.{delivers, acquireStep, releaseStep, takes, deliverStep, perform, run, View, isAccepted, toMachine, isGrantFor}
-use Rattle.theorems.specs.Names.{showsGrant, afterAcquire, afterGrant, sees, watch, bool-cases, clients, wireCapacity, inParts, mayShare}
+use Rattle.theorems.specs.Names.{_+_, _<_, arith, ℕ-discrete, length, getD-set-same, getD-set-other, leb, eq-eqb, ne-eqb, pick, any, removed, clientOf}
+use Rattle.theorems.specs.Names.{machineOf, modeOf, isShared, someAgent, agentOn, listed, idle, statusOf, plain, lockIn, noAgent, packets, Verdict}
+use Rattle.theorems.specs.Names.{cannot-place, does, Site, siteOf, withSlot, withStatus, apply, accepted, finish, anyHolder, without, staysIf, leaves}
+use Rattle.theorems.specs.Names.{joining, queuing, noRoom, mayJoin, lists, clientAsks, clientAcquires, clientReleases, current, toOwner, decidesAcquire}
+use Rattle.theorems.specs.Names.{decidesFree, decidesGrant, decides, atDecider, installs, grantArrives, rejectedGrantArrives, marked, unmarked}
+use Rattle.theorems.specs.Names.{acquireArrives, releaseArrives, freeArrives, arrives, atMachine, names, machineAt, clientNamed, packetAt, delivers}
+use Rattle.theorems.specs.Names.{acquireStep, releaseStep, takes, deliverStep, perform, run, View, isAccepted, toMachine, isGrantFor, showsGrant}
+use Rattle.theorems.specs.Names.{afterAcquire, afterGrant, sees, watch, bool-cases, clients, wireCapacity, inParts, mayShare}
 use Rattle.model.specs.Changes.{refused}
-use Rattle.theorems.specs.Tally.{tally, tally-at}
-use Rattle.theorems.specs.Weights.{statusAt, slotAt, weight, askM, waitingP, listedS}
+use Rattle.theorems.specs.Tally.{tally}
+use Rattle.theorems.specs.Weights.{statusAt, weight, askM, waitingP, listedS, listedP}
 use Rattle.theorems.specs.Invariant.{Inv}
 use Rattle.theorems.specs.InvariantStep.{Split, split-at, told, untold}
-use Rattle.theorems.specs.Facts.{flag-none, slot-home, waiter-below, hit-self, grant-waits}
+use Rattle.theorems.specs.Facts.{flag-none, slot-home, waiter-below, hit-self, in-slot, grant-waits}
 use Rattle.theorems.specs.Sent.{Good}
 use Rattle.theorems.specs.Clients.{names-none, unlisted, good-client-acquires, good-client-releases}
 use Rattle.theorems.specs.Steps.{verdict, good-deliver, Says, says-by, after-step}
@@ -30,7 +30,8 @@ told-other : (s : LockState) (c : ClientId) (st : Status) (d : ClientId) → (d 
 told-other s c st d n = ap (λ (x : ClientState). x .status) (getD-set-other (s .clients) (c .0) (d .0) (record { status = st }) idle n)
 
 -- every other client's is as it was
-finish-other : (k : MachineId) (c : ClientId) (w : Verdict) (rest : List Packet) (s : LockState) (d : ClientId) → (d .0 ≡ c .0 → ⊥) → statusOf (finish k c w rest s .state) d ≡ statusOf s d
+finish-other : (k : MachineId) (c : ClientId) (w : Verdict) (rest : List Packet) (s : LockState) (d : ClientId) → (d .0 ≡ c .0 → ⊥)
+    → statusOf (finish k c w rest s .state) d ≡ statusOf s d
 unfolding finish
 finish-other k c cannot-place rest s d n = refl
 finish-other k c (does v qs) rest s d n = go (leb (length rest + length qs) wireCapacity)
@@ -40,7 +41,8 @@ finish-other k c (does v qs) rest s d n = go (leb (length rest + length qs) wire
     go false = refl
 
 -- ---- acquire
-module _ (s : LockState) (i : Inv s) (c : ClientId) (cl : c .0 < clients) (id : statusOf s c ≡ Idle) (un : any (names c) (packets (s .wire)) ≡ false) (m : Mode) where
+module _ (s : LockState) (i : Inv s) (c : ClientId) (cl : c .0 < clients) (id : statusOf s c ≡ Idle) (un : any (names c) (packets (s .wire)) ≡ false)
+    (m : Mode) where
   abbrev ps : List Packet
   ps = packets (s .wire)
 
@@ -70,45 +72,37 @@ module _ (s : LockState) (i : Inv s) (c : ClientId) (cl : c .0 < clients) (id : 
   now st = told-self s c st (i .all-clients) cl
 
   not-listed : lists-home s ≡ false
-  unfolding listedS weight
-  not-listed = go (agentOn s (machineOf c) .present) (agentOn s (machineOf c) .agent) refl
-    where
-      go : (y : Bool) (h : Agent) → slotAt s (machineOf c .0) ≡ record { present = y; agent = h } → lists (record { present = y; agent = h }) c ≡ false
-      go false h e = refl
-      go true h e =
-          flag-none (listed h c)
-          (omega (arith, unlisted s i c cl id (names-none c ps un), rw e at (tally-at (listedS (c .0)) noAgent (s .agents) (machineOf c .0) (omega (arith, i .all-machines)))))
+  unfolding listedS
+  not-listed =
+      let x : AgentSlot = agentOn s (machineOf c) in
+      let here = in-slot s (listedP (c .0)) (listedS (c .0)) (machineOf c .0) x i (omega arith) refl in
+      let none = unlisted s i c cl id (names-none c ps un) in
+      bool-cases (x .present) (λ q. rw q (flag-none (listed (x .agent) c) (omega (arith, rw q at here)))) (λ q. rw q refl)
 
-  module _ (v : View) (h : Agent) (e : agentOn s (machineOf c) ≡ someAgent h) where
-    room : machineOf c .0 < length (s .agents)
-    room = omega (arith, i .all-machines)
+  -- the machine gets the slot x
+  lists-then : (x : AgentSlot) (v : Site) (qs : List Packet) → lists-home (then (withSlot v x) qs) ≡ lists x c
+  lists-then x v qs = ap (λ (y : AgentSlot). lists y c) (getD-set-same (s .agents) (machineOf c .0) x noAgent (omega (arith, i .all-machines)))
 
-    joined-now : Now v (then (withSlot (withStatus site (Holding m)) (someAgent (joining h c))) [])
-    joined-now =
-        let hl : c .0 < length (h .holders) = omega (arith, slot-home s (machineOf c .0) h i e .sized) in
-        let on : lists-home (then (withSlot (withStatus site (Holding m)) (someAgent (joining h c))) []) ≡ true =
-        ap (λ (x : AgentSlot). lists x c) (getD-set-same (s .agents) (machineOf c .0) (someAgent (joining h c)) noAgent room) ∙ getD-set-same (h .holders) (c .0) true false hl in
-        rw (on, not-listed) (sym (now (Holding m)))
+  joined-now : (v : View) (h : Agent) → agentOn s (machineOf c) ≡ someAgent h
+      → Now v (then (withSlot (withStatus site (Holding m)) (someAgent (joining h c))) [])
+  joined-now v h e =
+      let hl : c .0 < length (h .holders) = omega (arith, slot-home s (machineOf c .0) h i e .sized) in
+      let on = lists-then (someAgent (joining h c)) (withStatus site (Holding m)) [] ∙ getD-set-same (h .holders) (c .0) true false hl in
+      rw (on, not-listed) (sym (now (Holding m)))
 
-    queued-now : Now v (then (withSlot (withStatus site (Waiting m)) (someAgent (queuing h c m))) [])
-    queued-now =
-        let same : lists-home (then (withSlot (withStatus site (Waiting m)) (someAgent (queuing h c m))) []) ≡ lists-home s =
-        ap (λ (x : AgentSlot). lists x c) (getD-set-same (s .agents) (machineOf c .0) (someAgent (queuing h c m)) noAgent room) ∙ sym (ap (λ (x : AgentSlot). lists x c) e) in
-        rw same (waits-on (lists-home s) v ∙ sym (now (Waiting m)))
-
-  sent-now : (v : View) → Now v (then (withStatus site (Waiting m)) (plain (Acquire c m false) ToDecider ∷ []))
-  sent-now v =
-      let same : lists-home (then (withStatus site (Waiting m)) (plain (Acquire c m false) ToDecider ∷ [])) ≡ lists-home s = ap (λ (xs : List AgentSlot). lists (getD xs (machineOf c .0) noAgent) c) (set-getD (s .agents) (machineOf c .0) noAgent) in
-      rw same (waits-on (lists-home s) v ∙ sym (now (Waiting m)))
+  -- the slot x lists the client as before
+  waits-now : (v : View) (x : AgentSlot) (qs : List Packet) → lists x c ≡ lists-home s → Now v (then (withSlot (withStatus site (Waiting m)) x) qs)
+  waits-now v x qs e = rw (lists-then x (withStatus site (Waiting m)) qs ∙ e) (waits-on (lists-home s) v ∙ sym (now (Waiting m)))
 
   acquire-now : (v : View) → Says (λ w qs. Now v (then w qs)) (clientAcquires site c m)
   unfolding clientAcquires clientAsks
   acquire-now v = go (agentOn s (machineOf c) .present) (agentOn s (machineOf c) .agent) refl
     where
       go : (y : Bool) (h : Agent) → agentOn s (machineOf c) ≡ record { present = y; agent = h } → Says (λ w qs. Now v (then w qs)) (clientAsks site c m y h)
-      go false h e = sent-now v
+      go false h e = waits-now v (site .slot) (plain (Acquire c m false) ToDecider ∷ []) refl
       go true h e =
-          bool-cases (mayJoin site m) (λ q. rw q (joined-now v h e)) (λ q. bool-cases (noRoom h c) (λ z. rw (q, z) tt) (λ z. rw (q, z) (queued-now v h e)))
+          says-by _ (mayJoin site m) _ _ (joined-now v h e)
+          (says-by _ (noRoom h c) cannot-place _ tt (waits-now v (someAgent (queuing h c m)) [] (sym (ap (λ (x : AgentSlot). lists x c) e))))
 
   pub acquired-now : (v : View) → Now v (acquireStep s c m .state)
   unfolding acquireStep
@@ -118,17 +112,21 @@ pub acquired-other : (s : LockState) (c : ClientId) (m : Mode) (d : ClientId) �
 unfolding acquireStep
 acquired-other s c m d n = finish-other _ c _ _ s d n
 
--- ---- release
-release-idle : (v : Site) (c : ClientId) → Says (λ w qs. w .status ≡ Idle) (clientReleases v c)
-unfolding clientReleases staysIf
-release-idle v c =
-    bool-cases (lists (v .slot) c) (λ q. rw q (bool-cases (anyHolder (without (v .slot .agent) c)) (λ z. rw z refl) (λ z. rw z refl))) (λ q. rw q refl)
+-- ---- release: an agent that leaves or stays writes no status
+left-quiet : (v : Site) (a : Agent) (c : ClientId) → Says (λ w qs. w .status ≡ v .status) (leaves v a c)
+unfolding staysIf
+left-quiet v a c = bool-cases (anyHolder (without a c)) (λ q. rw q refl) (λ q. rw q refl)
 
-pub released-now : (s : LockState) (i : Inv s) (c : ClientId) (cl : c .0 < clients) (m : Mode) → statusOf s c ≡ Holding m → statusOf (releaseStep s c .state) c ≡ Idle
+release-idle : (v : Site) (c : ClientId) → Says (λ w qs. w .status ≡ Idle) (clientReleases v c)
+unfolding clientReleases
+release-idle v c = says-by _ (lists (v .slot) c) _ _ (left-quiet (withStatus v Idle) (v .slot .agent) c) refl
+
+pub released-now : (s : LockState) (i : Inv s) (c : ClientId) (cl : c .0 < clients) (m : Mode) → statusOf s c ≡ Holding m
+    → statusOf (releaseStep s c .state) c ≡ Idle
 unfolding releaseStep
 released-now s i c cl m ho =
-    after-step (machineOf c) c (λ w qs. w .status ≡ Idle) (λ t. statusOf t c ≡ Idle) _ (packets (s .wire)) s (good-client-releases s i c cl m ho) (release-idle _ c)
-    (λ w qs p. told-self s c (w .status) (i .all-clients) cl ∙ p)
+    after-step (machineOf c) c (λ w qs. w .status ≡ Idle) (λ t. statusOf t c ≡ Idle) _ (packets (s .wire)) s (good-client-releases s i c cl m ho)
+    (release-idle _ c) (λ w qs p. told-self s c (w .status) (i .all-clients) cl ∙ p)
 
 pub released-other : (s : LockState) (c : ClientId) (d : ClientId) → (d .0 ≡ c .0 → ⊥) → statusOf (releaseStep s c .state) d ≡ statusOf s d
 unfolding releaseStep
@@ -171,9 +169,8 @@ module _ (v : Site) where
   acquire-quiet true h p c m false = says-by Quiet (mayJoin v m) _ _ refl (says-by Quiet (noRoom h c) _ _ tt refl)
 
   release-quiet : (p : Packet) (c : ClientId) → Says Quiet (releaseArrives v p c)
-  unfolding releaseArrives staysIf
-  release-quiet p c =
-      bool-cases (lists (v .slot) c) (λ q. rw q (bool-cases (anyHolder (without (v .slot .agent) c)) (λ z. rw z refl) (λ z. rw z refl))) (λ q. rw q refl)
+  unfolding releaseArrives
+  release-quiet p c = says-by Quiet (lists (v .slot) c) _ _ (left-quiet v (v .slot .agent) c) refl
 
   free-quiet : (y : Bool) (x : AgentSlot) → Says Quiet (freeArrives y v x)
   unfolding freeArrives
@@ -189,7 +186,7 @@ module _ (v : Site) where
   rejected-quiet : (y : Bool) (a : Agent) (c : ClientId) (m : Mode) → Says Quiet (rejectedGrantArrives y v a c m)
   unfolding rejectedGrantArrives
   rejected-quiet true a c m = tt
-  rejected-quiet false a c m = bool-cases (noRoom a c) (λ z. rw z tt) (λ z. rw z refl)
+  rejected-quiet false a c m = says-by Quiet (noRoom a c) _ _ tt refl
 
   delivers-tells : (p : Packet) (t : Address) (m : Message) (b x : Bool) → Says (Tells t m b v) (delivers t v (inParts m t b x p))
   unfolding delivers atDecider atMachine arrives
@@ -208,8 +205,9 @@ module _ (s : LockState) (i : Inv s) (rest : List Packet) (c : ClientId) where
   quiet-seen : (v : View) → v .phase ≡ statusOf s c → (d : ClientId) (st : Status) → st ≡ statusOf s d → v .phase ≡ told s d st (c .0)
   quiet-seen v e d st q = e ∙ sym (rw q (untold s d (c .0)))
 
-  tells-seen : (p : Packet) (t : Address) (m : Message) (b : Bool) (v : View) → v .phase ≡ statusOf s c → Split s (inParts m t b (p .carried .present) p ∷ []) rest
-      → (k : MachineId) (w : Site) (qs : List Packet) → Tells t m b (siteOf s k (clientNamed m)) w qs → Seen t m b v (told s (clientNamed m) (w .status) (c .0))
+  tells-seen : (p : Packet) (t : Address) (m : Message) (b : Bool) (v : View) → v .phase ≡ statusOf s c
+      → Split s (inParts m t b (p .carried .present) p ∷ []) rest → (k : MachineId) (w : Site) (qs : List Packet)
+      → Tells t m b (siteOf s k (clientNamed m)) w qs → Seen t m b v (told s (clientNamed m) (w .status) (c .0))
   tells-seen p ToDecider m b v e sp k w qs z = quiet-seen v e (clientNamed m) (w .status) z
   tells-seen p (ToMachine j) (Acquire d n g) b v e sp k w qs z = quiet-seen v e d (w .status) z
   tells-seen p (ToMachine j) (Release d) b v e sp k w qs z = quiet-seen v e d (w .status) z
@@ -233,7 +231,8 @@ delivered-now s i j h c v e =
     let p : Packet = packetAt s j in
     let rest : List Packet = removed (packets (s .wire)) j in
     let sp : Split s (p ∷ []) rest = split-at s j p h refl in
-    after-step _ _ (Tells (p .to) (p .message) (p .rejected) (siteOf s (machineAt (p .to)) (clientNamed (p .message)))) (λ u. Seen s i rest c (p .to) (p .message) (p .rejected) v (statusOf u c)) (verdict s p) rest s (good-deliver s i j h)
+    after-step _ _ (Tells (p .to) (p .message) (p .rejected) (siteOf s (machineAt (p .to)) (clientNamed (p .message))))
+    (λ u. Seen s i rest c (p .to) (p .message) (p .rejected) v (statusOf u c)) (verdict s p) rest s (good-deliver s i j h)
     (delivers-tells _ p (p .to) (p .message) (p .rejected) (p .carried .present))
     (tells-seen s i rest c p (p .to) (p .message) (p .rejected) v e sp (machineAt (p .to)))
 
@@ -241,30 +240,22 @@ delivered-now s i j h c v e =
 abbrev client-of : ℕ → ClientId
 client-of n = record { 0 = n }
 
-own : (a : Call) (s : LockState) (x y : Cluster) (c : ClientId) (v : View) → Allowed a s → Inv s → lockIn x (lockOf a) ≡ s → lockIn y (lockOf a) ≡ stepOf a s .state
-    → v .phase ≡ statusOf s c → sees (lockOf a) c a x y v .phase ≡ statusOf (lockIn y (lockOf a)) c
+own : (a : Call) (s : LockState) (x y : Cluster) (c : ClientId) (v : View) → Allowed a s → Inv s → lockIn x (lockOf a) ≡ s
+    → lockIn y (lockOf a) ≡ stepOf a s .state → v .phase ≡ statusOf s c → sees (lockOf a) c a x y v .phase ≡ statusOf (lockIn y (lockOf a)) c
 unfolding sees
 own _ s x y c v (may-acquire {l = l} {k = k} {t = t} {m = m} kb tb n id un) i ex ey e = go (ℕ-discrete (c .0) (clientOf k t .0))
   where
-    cl : clientOf k t .0 < clients
-    cl = omega arith
-
-    mine : sees l (clientOf k t) (AcquireCall l k t m) x y v .phase ≡ statusOf (lockIn y l) (clientOf k t)
-    mine = rw (eq-eqb (l .0) (l .0) refl, eq-eqb (clientOf k t .0) (clientOf k t .0) refl, ey, ex) (acquired-now s i (clientOf k t) cl id un (modeOf m) v)
-
-    same : c .0 ≡ clientOf k t .0 → c ≡ clientOf k t
-    same q = ap client-of q
-
     go : Dec (c .0 ≡ clientOf k t .0) → sees l c (AcquireCall l k t m) x y v .phase ≡ statusOf (lockIn y l) c
-    go (yes q) = rw (same q) mine
+    go (yes q) =
+        rw (ap client-of q, eq-eqb (l .0) (l .0) refl, eq-eqb (clientOf k t .0) (clientOf k t .0) refl, ey, ex)
+        (acquired-now s i (clientOf k t) (omega arith) id un (modeOf m) v)
     go (no q) = rw (eq-eqb (l .0) (l .0) refl, ne-eqb (c .0) (clientOf k t .0) q, ey) (e ∙ sym (acquired-other s (clientOf k t) (modeOf m) c q))
 own _ s x y c v (may-release {l = l} {k = k} {t = t} kb tb n ho) i ex ey e = go (ℕ-discrete (c .0) (clientOf k t .0))
   where
-    cl : clientOf k t .0 < clients
-    cl = omega arith
-
     go : Dec (c .0 ≡ clientOf k t .0) → sees l c (ReleaseCall l k t) x y v .phase ≡ statusOf (lockIn y l) c
-    go (yes q) = rw (eq-eqb (l .0) (l .0) refl, eq-eqb (c .0) (clientOf k t .0) q, ey) (sym (ap (λ (z : ℕ). statusAt (releaseStep s (clientOf k t) .state) z) q ∙ released-now s i (clientOf k t) cl n ho))
+    go (yes q) =
+        rw (ap client-of q, eq-eqb (l .0) (l .0) refl, eq-eqb (clientOf k t .0) (clientOf k t .0) refl, ey)
+        (sym (released-now s i (clientOf k t) (omega arith) n ho))
     go (no q) = rw (eq-eqb (l .0) (l .0) refl, ne-eqb (c .0) (clientOf k t .0) q, ey) (e ∙ sym (released-other s (clientOf k t) c q))
 own _ s x y c v (may-deliver {l = l} {i = j} h) i ex ey e = rw (eq-eqb (l .0) (l .0) refl, ex, ey) (delivered-now s i j h c v e)
 
@@ -290,7 +281,8 @@ agrees-call a l c x v h e = go (answered a x h) (ℕ-discrete (l .0) (lockOf a .
     go (denied-by r n p) d = rw p e
     go (accepted-by al p q) (no n) = rw (p, elsewhere a l x (perform a x .cluster) c v n, perform-elsewhere a x l n) e
     go (accepted-by al p q) (yes d) =
-        rw (p, ap lock-of d) (own a (lockIn x (lockOf a)) x (perform a x .cluster) c v al (h .invs (lockOf a)) refl q (e ∙ ap (λ (z : ℕ). statusOf (lockIn x (lock-of z)) c) d))
+        rw (p, ap lock-of d)
+        (own a (lockIn x (lockOf a)) x (perform a x .cluster) c v al (h .invs (lockOf a)) refl q (e ∙ ap (λ (z : ℕ). statusOf (lockIn x (lock-of z)) c) d))
 
 pub agrees : (cs : List Call) (l : LockId) (c : ClientId) (x : Cluster) (v : View) → Reached x → v .phase ≡ statusOf (lockIn x l) c
     → watch l c cs x v .phase ≡ statusOf (lockIn (run cs x) l) c

@@ -1,15 +1,15 @@
 -- The work that is left on a lock: what each packet, agent and client counts for, how a step changes it, and its bound.
 use Rattle.theorems.specs.Names.{MachineId, ClientId, Mode, Exclusive, Shared, Owner, Waiter, Agent, AgentSlot, Address, ToDecider, ToMachine, Message}
 use Rattle.theorems.specs.Names.{Free, Acquire, Grant, Release, Packet, ClientState, LockState, _≡_, refl, _∙_, Bool, true, false, and-false, false≢true}
-use Rattle.theorems.specs.Names.{List, [], _∷_, ℕ, zero, suc, _+_, _*_, _≤_, arith, length, getD, set, ltb, ltb-true, idle, waiters, noAgent, packets}
-use Rattle.theorems.specs.Names.{Site, apply, bool-cases, clients}
-use Rattle.theorems.specs.Tally.{flag, gate, tally, tally-at, tally-le, tally-le-at, tally-add, tally-zero, tally-length, sumTo, sum-swap, sum-le}
-use Rattle.theorems.specs.Tally.{sum-ext, sum-add, sum-one}
-use Rattle.theorems.specs.Weights.{statusAt, slotAt, weight, one, hit, hitW, askM, queuedS, waitingP, markM, listedS, listedP, owedM, owedP, releaseM}
-use Rattle.theorems.specs.Weights.{releaseP, agentS, agentP, heads, waitF, holdF, misfitS, fits, fitsP, misfitP}
+use Rattle.theorems.specs.Names.{List, [], _∷_, ℕ, zero, suc, _+_, _*_, _≤_, arith, length, getD, set, ltb, idle, waiters, noAgent, packets, Site, apply}
+use Rattle.theorems.specs.Names.{bool-cases, clients, _<_}
+use Rattle.theorems.specs.Tally.{flag, gate, tally, tally-at, tally-le-at, tally-add, tally-zero, sumTo, sum-swap, sum-ext, sum-add}
+use Rattle.theorems.specs.Weights.{statusAt, slotAt, weight, hit, hitW, askM, queuedS, waitingP, markM, listedS, listedP, owedM, owedP, releaseM}
+use Rattle.theorems.specs.Weights.{releaseP, agentS, agentP, heads, waitF, holdF, misfitS, inRange, fits, fitsP, misfitP, oneW}
 use Rattle.theorems.specs.Invariant.{Inv}
 use Rattle.theorems.specs.InvariantStep.{packets-after, Split}
-use Rattle.theorems.specs.Facts.{fit, named-of, away-of, home-of, far-idle, farW, far-none, hits, statuses, owned-one}
+use Rattle.theorems.specs.Facts.{fit, named-of, away-of, home-of, far-idle, farW, far-none, one-each, as-one, hits, statuses, owned-one}
+use Rattle.theorems.specs.Waiters.{line-length, line-once}
 use Rattle.theorems.specs.Exclusion.{carried-away}
 
 -- an agent under way: 2 to the decider, 1 to a machine
@@ -84,8 +84,8 @@ unfolding sumTo
 sum-bound zero a l r h o e = omega arith
 sum-bound (suc n) a l r h o e = omega (arith, e n, sum-bound n a l r h o e)
 
-tally-bound : {A : Type 0} (m w o g a l r : A → ℕ) → ((x : A) → m x ≡ 0 → w x + 4 * o x ≤ 2 * g x + 7 * a x + 3 * l x + 5 * r x) → (xs : List A) → tally m xs ≡ 0
-    → tally w xs + 4 * tally o xs ≤ 2 * tally g xs + 7 * tally a xs + 3 * tally l xs + 5 * tally r xs
+tally-bound : {A : Type 0} (m w o g a l r : A → ℕ) → ((x : A) → m x ≡ 0 → w x + 4 * o x ≤ 2 * g x + 7 * a x + 3 * l x + 5 * r x)
+    → (xs : List A) → tally m xs ≡ 0 → tally w xs + 4 * tally o xs ≤ 2 * tally g xs + 7 * tally a xs + 3 * tally l xs + 5 * tally r xs
 unfolding tally
 tally-bound m w o g a l r e [] z = omega arith
 tally-bound m w o g a l r e (x ∷ xs) z = omega (arith, e x (omega arith), tally-bound m w o g a l r e xs (omega arith))
@@ -97,55 +97,43 @@ waitD d p = waitingP d Exclusive p + waitingP d Shared p
 abbrev queueD : ℕ → AgentSlot → ℕ
 queueD d x = queuedS d Exclusive x + queuedS d Shared x
 
--- the asks of all clients in a message
-askSum : Message → ℕ
-askSum m = sumTo clients (λ d. askM d Exclusive m + askM d Shared m)
+abbrev askD : ℕ → Message → ℕ
+askD d m = askM d Exclusive m + askM d Shared m
 
-one-each : (c : ClientId) → ltb (c .0) clients ≡ true → sumTo clients (λ d. one d c) ≡ 1
-unfolding one
-one-each c e = sum-one clients (c .0) (ltb-true (c .0) clients e)
-
-asks-each : (c : ClientId) (n : Mode) → ltb (c .0) clients ≡ true → sumTo clients (λ d. hit d Exclusive c n + hit d Shared c n) ≡ 1
-asks-each c n e = sum-ext clients (λ d. hit d Exclusive c n + hit d Shared c n) (λ d. one d c) (λ d. hits d c n) ∙ one-each c e
+-- a count of all clients
+abbrev all : {A : Type 0} → (ℕ → A → ℕ) → A → ℕ
+all f x = sumTo clients (λ d. f d x)
 
 trip-two : (t : Address) → tripA t ≤ 2
 trip-two ToDecider = omega arith
 trip-two (ToMachine k) = omega arith
 
-none-each : (f : ℕ → ℕ) → ((d : ℕ) → f d ≡ 0) → sumTo clients f ≡ 0
-none-each f h = omega (arith, sum-le clients 0 f (λ d. omega (arith, h d)))
+no-sum : sumTo clients (λ d. 0) ≡ 0
+unfolding sumTo
+no-sum = refl
 
-message-work : (o : Owner) (x : Bool) (t : Address) (b : Bool) (a : Agent) (m : Message) → fits o x t b a m ≡ true
-    → workM x t m + 4 * sumTo clients (λ d. owedM d x m) ≤ 2 * flag x + 7 * askSum m + 3 * sumTo clients (λ d. markM d m) + 5 * sumTo clients (λ d. releaseM d m)
-unfolding workM owedM askM markM releaseM askSum fits
-message-work o x t b a (Acquire c n false) e = let q = named-of o x t b a (Acquire c n false) e in omega (arith, asks-each c n q, none-each (λ d. 0) (λ d. refl))
-message-work o x t b a (Acquire c n true) e = let q = named-of o x t b a (Acquire c n true) e in omega (arith, one-each c q, none-each (λ d. 0) (λ d. refl))
-message-work o true t b a (Grant c n) e = let q = named-of o true t b a (Grant c n) e in omega (arith, asks-each c n q, none-each (λ d. 0) (λ d. refl), trip-two t)
-message-work o false t b a (Grant c n) e = let q = named-of o false t b a (Grant c n) e in omega (arith, asks-each c n q, one-each c q)
-message-work o x t b a (Release c) e = let q = named-of o x t b a (Release c) e in omega (arith, one-each c q)
-message-work o true t b a Free e = omega (arith, none-each (λ d. 0) (λ d. refl), trip-two t)
-message-work o false t b a Free e = absurd (false≢true (rw and-false at e))
+asks-each : (c : ClientId) (n : Mode) → ltb (c .0) clients ≡ true → sumTo clients (λ d. hit d Exclusive c n + hit d Shared c n) ≡ 1
+asks-each c n e = as-one c e _ (λ d. hits d c n)
+
+message-work : (o : Owner) (x : Bool) (t : Address) (b : Bool) (a : Agent) (m : Message) → inRange m ≡ true → fits o x t b a m ≡ true
+    → workM x t m + 4 * all (λ d. owedM d x) m ≤ 2 * flag x + 7 * all askD m + 3 * all markM m + 5 * all releaseM m
+unfolding workM owedM askM markM releaseM fits
+message-work o x t b a (Acquire c n false) q e = omega (arith, asks-each c n q, no-sum)
+message-work o x t b a (Acquire c n true) q e = omega (arith, one-each c q, no-sum)
+message-work o true t b a (Grant c n) q e = omega (arith, asks-each c n q, no-sum, trip-two t)
+message-work o false t b a (Grant c n) q e = omega (arith, asks-each c n q, one-each c q)
+message-work o x t b a (Release c) q e = omega (arith, one-each c q)
+message-work o true t b a Free q e = omega (arith, no-sum, trip-two t)
+message-work o false t b a Free q e = absurd (false≢true (rw and-false at e))
 
 -- the waiters of an agent that are no clients
 unfoldable farS : AgentSlot → ℕ
 farS x = gate (x .present) (tally farW (waiters (x .agent .queue)))
 
 queue-work : (ws : List Waiter) → tally farW ws ≡ 0 → length ws ≤ sumTo clients (λ d. tally (hitW d Exclusive) ws + tally (hitW d Shared) ws)
-queue-work ws z =
-    omega (
-      arith,
-      tally-length ws,
-      tally-le (λ w. 1) (λ w. farW w + sumTo clients (λ d. hitW d Exclusive w + hitW d Shared w)) each ws,
-      tally-add farW (λ w. sumTo clients (λ d. hitW d Exclusive w + hitW d Shared w)) ws,
-      sum-swap clients (λ d w. hitW d Exclusive w + hitW d Shared w) ws,
-      sum-ext clients (λ d. tally (λ w. hitW d Exclusive w + hitW d Shared w) ws) (λ d. tally (hitW d Exclusive) ws + tally (hitW d Shared) ws) (λ d. tally-add (hitW d Exclusive) (hitW d Shared) ws),
-    )
-  where
-    each : (w : Waiter) → 1 ≤ farW w + sumTo clients (λ d. hitW d Exclusive w + hitW d Shared w)
-    each w = bool-cases (ltb (w .client .0) clients) (λ q. omega (arith, asks-each (w .client) (w .mode) q)) (λ q. rw q (omega arith))
+queue-work ws z = rw (sum-ext clients (λ d. tally (oneW d) ws) _ (line-once ws)) at (line-length ws z)
 
-slot-work : (x : AgentSlot) → (x .present ≡ true → length (x .agent .holders) ≡ clients) → farS x ≡ 0
-    → workS x ≤ 7 * sumTo clients (λ d. queueD d x) + 3 * sumTo clients (λ d. listedS d x)
+slot-work : (x : AgentSlot) → (x .present ≡ true → length (x .agent .holders) ≡ clients) → farS x ≡ 0 → workS x ≤ 7 * all queueD x + 3 * all listedS x
 unfolding workS queuedS listedS farS
 slot-work x h z =
     bool-cases (x .present)
@@ -159,21 +147,22 @@ carried-sized o false t b a m e q = absurd (false≢true q)
 carried-sized o true t b a m e q = away-of a (carried-away o t b a m e) .sized
 
 packet-work : (o : Owner) (p : Packet) → misfitP o p + farS (p .carried) ≡ 0
-    → workP p + 4 * sumTo clients (λ d. owedP d p) ≤ 2 * agentP p + 7 * sumTo clients (λ d. waitD d p) + 3 * sumTo clients (λ d. listedP d p) + 5 * sumTo clients (λ d. releaseP d p)
-unfolding misfitP agentS askSum
+    → workP p + 4 * all owedP p ≤ 2 * agentP p + 7 * all waitD p + 3 * all listedP p + 5 * all releaseP p
+unfolding misfitP agentS
 packet-work o p z =
     let f : fitsP o p ≡ true = fit _ (omega arith) in
+    let moved = message-work o _ _ _ _ (p .message) (named-of _ _ _ _ _ (p .message) f) f in
     omega (
       arith,
-      message-work o _ _ _ _ (p .message) f,
       slot-work (p .carried) (carried-sized o _ _ _ _ (p .message) f) (omega arith),
-      sum-ext clients (λ d. waitD d p) (λ d. (askM d Exclusive (p .message) + askM d Shared (p .message)) + queueD d (p .carried)) (λ d. omega arith),
-      sum-add clients (λ d. askM d Exclusive (p .message) + askM d Shared (p .message)) (λ d. queueD d (p .carried)),
+      sum-ext clients (λ d. waitD d p) (λ d. askD d (p .message) + queueD d (p .carried)) (λ d. omega arith),
+      sum-add clients (λ d. askD d (p .message)) (λ d. queueD d (p .carried)),
       sum-add clients (λ d. markM d (p .message)) (λ d. listedS d (p .carried)),
     )
 
 -- no waiter is far, where none is counted
-far-slots : {A : Type 0} (s : A → AgentSlot) (xs : List A) → ((d : ℕ) (m : Mode) → clients ≤ d → tally (λ x. queuedS d m (s x)) xs ≡ 0) → tally (λ x. farS (s x)) xs ≡ 0
+far-slots : {A : Type 0} (s : A → AgentSlot) (xs : List A) → ((d : ℕ) (m : Mode) → clients ≤ d → tally (λ x. queuedS d m (s x)) xs ≡ 0)
+    → tally (λ x. farS (s x)) xs ≡ 0
 unfolding tally queuedS farS
 far-slots s [] h = refl
 far-slots s (x ∷ xs) h = omega (arith, far-slots s xs (λ d m g. omega (arith, h d m g)), here)
@@ -191,7 +180,9 @@ module _ (r : LockState) (i : Inv r) where
 
   far-carried : tally (λ p. farS (p .carried)) ps ≡ 0
   unfolding weight
-  far-carried = far-slots (λ p. p .carried) ps (λ d m h. omega (arith, far-queues d m h, tally-add (λ p. askM d m (p .message)) (λ p. queuedS d m (p .carried)) ps))
+  far-carried =
+      far-slots (λ p. p .carried) ps
+      (λ d m h. omega (arith, far-queues d m h, tally-add (λ p. askM d m (p .message)) (λ p. queuedS d m (p .carried)) ps))
 
   far-on-machines : tally farS (r .agents) ≡ 0
   unfolding weight
@@ -201,19 +192,20 @@ module _ (r : LockState) (i : Inv r) where
   unfolding misfitS
   home-sized k q = home-of (r .decider .owner) k (slotAt r k .agent) (rw q at (i .homes k)) .sized
 
-  slots-work : tally workS (r .agents) ≤ 7 * tally (λ x. sumTo clients (λ d. queueD d x)) (r .agents) + 3 * tally (λ x. sumTo clients (λ d. listedS d x)) (r .agents)
+  slots-work : tally workS (r .agents) ≤ 7 * tally (all queueD) (r .agents) + 3 * tally (all listedS) (r .agents)
   slots-work =
-      let share : AgentSlot → ℕ = λ x. 7 * sumTo clients (λ d. queueD d x) + 3 * sumTo clients (λ d. listedS d x) in
+      let share : AgentSlot → ℕ = λ x. 7 * all queueD x + 3 * all listedS x in
       let z : AgentSlot → ℕ = λ x. 0 in
+      let near : (k : ℕ) → k < length (r .agents) → farS (slotAt r k) ≡ 0 = λ k h. omega (arith, far-on-machines, tally-at farS noAgent (r .agents) k h) in
       omega (
         arith,
-        tally-le-at workS share noAgent (r .agents) (λ k h. slot-work (slotAt r k) (home-sized k) (omega (arith, far-on-machines, tally-at farS noAgent (r .agents) k h))),
-        tally-bound z share z z (λ x. sumTo clients (λ d. queueD d x)) (λ x. sumTo clients (λ d. listedS d x)) z (λ x e. omega arith) (r .agents) (tally-zero (r .agents)),
+        tally-le-at workS share noAgent (r .agents) (λ k h. slot-work (slotAt r k) (home-sized k) (near k h)),
+        tally-bound z share z z (all queueD) (all listedS) z (λ x e. omega arith) (r .agents) (tally-zero (r .agents)),
         tally-zero (r .agents),
       )
 
-  wire-work : tally workP ps + 4 * tally (λ p. sumTo clients (λ d. owedP d p)) ps
-      ≤ 2 * tally agentP ps + 7 * tally (λ p. sumTo clients (λ d. waitD d p)) ps + 3 * tally (λ p. sumTo clients (λ d. listedP d p)) ps + 5 * tally (λ p. sumTo clients (λ d. releaseP d p)) ps
+  wire-work : tally workP ps + 4 * tally (all owedP) ps
+      ≤ 2 * tally agentP ps + 7 * tally (all waitD) ps + 3 * tally (all listedP) ps + 5 * tally (all releaseP) ps
   wire-work =
       tally-bound (λ p. misfitP (r .decider .owner) p + farS (p .carried)) workP _ agentP _ _ _ (packet-work (r .decider .owner)) ps
       (omega (arith, tally-add (misfitP (r .decider .owner)) (λ p. farS (p .carried)) ps, i .fitting, far-carried))

@@ -29,7 +29,7 @@ use Rattle.model.specs.Transcripts.{short, acquireAt, releaseAt, deliverAt, who
 use Rattle.laws.specs.Tests.{and-right}
 use Rattle.laws.specs.CallSteps.{lockOf}
 use Rattle.laws.specs.Clusters.{perform-formed}
-use Rattle.engine.specs.Within.{callWithin, lock-read, perform-range, writtenBy, perform-written, written-formed}
+use Rattle.engine.specs.LockCalls.{callOn, lock-read, perform-range, writtenBy, perform-written, written-formed}
 
 -- ---- a record has at least six bytes, and ends within the transcript
 data Ends (bytes : List ℕ) (i : ℕ) : Reading → Type 0 where
@@ -63,7 +63,7 @@ record-ends bytes i c j e = go (rw e at (reading-ends bytes i))
     go (inside h k) = (h, k)
 
 -- ---- a call on its lock's state, written back in its place
-module _ (c : Call) (y : Cluster) (l : LockId) (d : LockState) (o : Stepped) (w : wellFormed y ≡ true) (e : l ≡ lockOf c) (h : l .0 < locks) (q : o ≡ callWithin c (getD (y .locks) (l .0) d)) where
+module _ (c : Call) (y : Cluster) (l : LockId) (d : LockState) (o : Stepped) (w : wellFormed y ≡ true) (e : l ≡ lockOf c) (h : l .0 < locks) (q : o ≡ callOn c (getD (y .locks) (l .0) d)) where
   in-place : _≡_ {A = Cluster} (record { locks = set (y .locks) (l .0) (o .state) }) (writtenBy c y)
   in-place = rw (q, lock-read y l d w h, e)
 
@@ -109,13 +109,13 @@ module _ {bytes : List ℕ} {x : Cluster} {i n : ℕ} {y : Cluster} (p : Course 
       }
 
   pub course-step : (c : Call) (j : ℕ) (l : LockId) (d : LockState) (o : Stepped) → readRecord bytes i ≡ Record c j → l ≡ lockOf c → l .0 < locks
-      → o ≡ callWithin c (getD (y .locks) (l .0) d) → Course bytes x j (n + 1) (record { locks = set (y .locks) (l .0) (o .state) })
+      → o ≡ callOn c (getD (y .locks) (l .0) d) → Course bytes x j (n + 1) (record { locks = set (y .locks) (l .0) (o .state) })
   course-step c j l d o e q h f =
       let w = p .formed in
       rw (in-place c y l d o w q h f, ← perform-written c y w (rw q at h)) (course-on c j e)
 
   pub course-refused : (c : Call) (j : ℕ) (l : LockId) (d : LockState) (r : Refusal) → readRecord bytes i ≡ Record c j → l ≡ lockOf c → l .0 < locks
-      → refused r (getD (y .locks) (l .0) d) ≡ callWithin c (getD (y .locks) (l .0) d) → Course bytes x j (n + 1) y
+      → refused r (getD (y .locks) (l .0) d) ≡ callOn c (getD (y .locks) (l .0) d) → Course bytes x j (n + 1) y
   course-refused c j l d r e q h f =
       subst (λ (ls : List LockState). Course bytes x j (n + 1) (record { locks = ls })) (set-getD (y .locks) (l .0) d) (course-step c j l d _ e q h f)
 

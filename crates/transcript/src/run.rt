@@ -1,16 +1,16 @@
 // The run of a transcript. The cluster stays in one local: each record's call is planned on its lock's state, which is written in its place where the
 // plan accepts.
 use crate::reader::read_at;
-use engine::formed::well_formed;
-use engine::within::lock_of;
-use engine::within::plan_call;
+use engine::lock_calls::carry_out;
+use engine::lock_calls::lock_of;
+use engine::lock_calls::plan_call;
+use engine::well_formed;
 use model::Answer;
 use model::Cluster;
 use model::LOCKS;
 use model::Reading;
 use model::Refusal;
 use model::Replayed;
-use rules::plan::carry_out;
 ghost use mathlib.Core.Path.{_≡_};
 ghost use mathlib.Core.Bool.{true};
 ghost use Prim.Native.Nat.{_+_, _≤_};

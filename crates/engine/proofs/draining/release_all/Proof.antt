@@ -1,58 +1,55 @@
-use Rattle.engine.proofs.Base.{_≡_, sym, ap, false≢true, arith, needs, Stepped, release-formed, ready, Course, course-start, releases-next, leg-on}
-use Rattle.engine.proofs.Base.{leg-rests, leg-spent, leg-refused, course-on, plan-accepts, plan-refuses}
+use Rattle.engine.proofs.Base.{_≡_, sym, _∙_, true≢false, false≢true, arith, needs, ready, Open, Progress, progress-start, progress-more}
+use Rattle.engine.proofs.Base.{progress-quiescent, release-planned, none-holds}
 use Rattle.engine.proofs.draining.release_all.Statement.{statement}
 use Rattle.engine.proofs.draining.release_all.Tie as tie
 
 abbrev Inv-loop : tie.InvT-loop
-Inv-loop left n t₀ k₀ m₀ t k m = (Course k₀ m₀ t₀ t k m) × (k ≡ k₀ → t .wire .len ≡ 0)
+Inv-loop d₀ d = ((Open d) × (d .left ≡ d₀ .left → d .state .wire .len ≡ 0)) × (Progress d₀ d)
 
 abbrev μ-loop : tie.MeasureT-loop
-μ-loop left n t₀ k₀ m₀ t k m = k
+μ-loop d₀ d = d .left
 
 loop-holds : tie.Need-loop-holds Inv-loop μ-loop
-loop-holds c = (course-start _ _ _ (c .pre .0), λ e. c .pre .1 .1)
+loop-holds c = ((c .pre .0, λ e. c .pre .1), progress-start (c .pre .0))
 
 returns : tie.Need-returns Inv-loop μ-loop
-returns c = rw (c .leg-of .ensures) (leg-rests (c .before .before .before .before .before .before .loop .inv .0) _ (c .before .before .before .before .if1 .taken) (c .before .before .first-holder .ensures) (c .before .if2 .taken), λ e. absurd (false≢true e))
+returns c =
+    let b = c .before .before in
+    let i = b .before .before .before .before .loop .inv in
+    let o = i .0 .0 in
+    let n = none-holds _ (o .formed) (b .before .before .if1 .taken) _ (b .first-holder .ensures) (c .before .if2 .taken) in
+    rw (c .end-with .ensures) (progress-more o (i .1) (progress-quiescent o n), λ e. absurd (true≢false e))
+
+plan-release-requires : tie.Need-plan-release-requires Inv-loop μ-loop
+plan-release-requires c κs = ready _ (c .before .before .before .before .before .loop .inv .0 .0 .formed)
+
+make-step-requires : tie.Need-make-step-requires Inv-loop μ-loop
+make-step-requires c κs =
+    let b = c .before .before in
+    let o = b .before .before .before .before .loop .inv .0 .0 in
+    (o, release-planned _ (o .formed) (b .before .before .if1 .taken) _ (b .first-holder .ensures) _ (c .before .if2 .left) (c .plan-release .ensures))
 
 returns-2 : tie.Need-returns-2 Inv-loop μ-loop
 returns-2 c =
-    let l = c .before .before .before .before .before .before .before .loop .inv .0 in
-    let n = releases-next (c .before .before .before .before .before .before .before .loop .t) _ (l .formed) (c .before .before .before .before .before .if1 .taken) (c .before .before .before .first-holder .ensures) (c .before .before .if2 .left) in
-    rw (c .leg-of2 .ensures) (leg-spent l n (c .before .if3 .taken), λ e. absurd (false≢true e))
-
-plan-release-requires : tie.Need-plan-release-requires Inv-loop μ-loop
-plan-release-requires c κs = ready (c .before .before .before .before .before .before .loop .t) (c .before .before .before .before .before .before .loop .inv .0 .formed)
-
-returns-3 : tie.Need-returns-3 Inv-loop μ-loop
-returns-3 c =
-    let l = c .before .before .before .before .before .before .before .before .before .before .before .loop .inv .0 in
-    let n = releases-next (c .before .before .before .before .before .before .before .before .before .before .before .loop .t) _ (l .formed) (c .before .before .before .before .before .before .before .before .before .if1 .taken) (c .before .before .before .before .before .before .before .first-holder .ensures) (c .before .before .before .before .before .before .if2 .left) in
-    let q = plan-refuses (c .before .before .before .before .plan-release .ensures) _ (c .before .before .a .given .1) in
-    rw (c .leg-of3 .ensures) (leg-refused l n _ (omega (arith, c .before .before .before .before .before .if3 .left)) (ap (λ (o : Stepped). o .answer) (sym q)), λ e. absurd (false≢true e))
-
-carry-out-requires : tie.Need-carry-out-requires Inv-loop μ-loop
-carry-out-requires c κs = (ready (c .before .before .before .before .before .before .before .before .before .loop .t) (c .before .before .before .before .before .before .before .before .before .loop .inv .0 .formed) .wire, c .before .before .plan-release .ensures .fits (c .enum-told .given .1))
-
-add-m : tie.Need-add-m Inv-loop μ-loop
-add-m c = omega (arith, c .before .before .before .before .before .before .before .before .before .before .loop .inv .0 .spent, c .before .before .before .before .before .before .before .before .before .before .before .pre .1 .0, c .before .before .before .before .if3 .left)
+    let i = c .before .before .before .before .before .before .before .before .loop .inv in
+    (progress-more (i .0 .0) (i .1) (c .before .make-step .ensures .0), λ e. absurd (false≢true (sym e ∙ c .if3 .taken)))
 
 loop-again : tie.Need-loop-again Inv-loop μ-loop
 loop-again c =
-    let l = c .before .before .before .before .before .before .before .before .before .before .loop .inv .0 in
-    let t = c .before .before .before .before .before .before .before .before .before .before .loop .t in
-    let n = releases-next t _ (l .formed) (c .before .before .before .before .before .before .before .before .if1 .taken) (c .before .before .before .before .before .before .first-holder .ensures) (c .before .before .before .before .before .if2 .left) in
-    let q = plan-accepts (c .before .before .before .plan-release .ensures) (c .before .enum-told .given .1) in (
-      rw (c .carry-out .ensures, ap (λ (o : Stepped). o .state) q)
-          (course-on l n (omega (arith, c .before .before .before .before .if3 .left)) (ap (λ (o : Stepped). o .answer) (sym q)) (release-formed t _ (c .before .before .before .before .before .if2 .left) (l .formed))),
-      λ e. absurd (omega (arith, e, c .before .before .before .before .if3 .left, l .fewer)),
-    )
+    let i = c .before .before .before .before .before .before .before .before .loop .inv in
+    let m = c .before .make-step .ensures in
+    let o : Open _ = record { goes = c .if3 .left; formed = m .0 .formed } in
+    ((o, λ e. absurd (omega (arith, e, m .1 (c .if3 .left), i .1 .fewer))), progress-more (i .0 .0) (i .1) (m .0))
 
-returns-4 : tie.Need-returns-4 Inv-loop μ-loop
-returns-4 c =
-    let l = c .before .before .before .loop .inv in
-    let ne : c .before .before .before .loop .k ≡ c .before .before .before .before .args .left → ⊥ = λ q. c .before .if1 .left (l .1 q) in
-    rw (c .leg-of4 .ensures) (leg-on (l .0) _, λ e. omega (arith, ne, l .0 .fewer))
+returns-3 : tie.Need-returns-3 Inv-loop μ-loop
+returns-3 c =
+    let b = c .before .before in
+    let i = b .loop .inv in
+    let less : b .loop .d .left ≡ b .before .args .start .left → ⊥ = λ q. c .if1 .left (i .0 .1 q) in
+    (i .1, λ e. omega (arith, less, i .1 .fewer))
 
 pub release-all-spec : {M : Type 1} → statement M
-release-all-spec = tie.close (tie.spec Inv-loop μ-loop loop-holds (λ c κs. search needs) (λ c. search needs) (λ c κs. search needs) returns (λ c κs. search needs) returns-2 plan-release-requires (λ c. search needs) (λ c. search needs) (λ c κs. search needs) returns-3 carry-out-requires (λ c. search needs) add-m (λ c. search needs) loop-again (λ c κs. search needs) returns-4)
+release-all-spec =
+    tie.close
+    (tie.spec Inv-loop μ-loop loop-holds (λ c κs. search needs) (λ c. search needs) (λ c κs. search needs) returns plan-release-requires make-step-requires
+    returns-2 (λ c. c .before .make-step .ensures .1 (c .if3 .left)) loop-again returns-3)

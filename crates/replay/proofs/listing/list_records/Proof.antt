@@ -7,7 +7,7 @@ use borrow.Author.Needs.{needs}
 use Rattle.model.specs.WellFormed.{wellFormed}
 use Rattle.laws.specs.Formed.{lock-formed}
 use Rattle.laws.specs.Clusters.{fresh-formed}
-use Rattle.engine.specs.Within.{lock-read}
+use Rattle.engine.specs.LockCalls.{lock-read}
 use Rattle.transcript.specs.Run.{place-formed}
 use Rattle.replay.proofs.listing.list_records.Statement.{statement}
 use Rattle.replay.proofs.listing.list_records.Tie as tie
@@ -21,8 +21,8 @@ abbrev μ-loop : tie.MeasureT-loop
 loop-holds : tie.Need-loop-holds Inv-loop μ-loop
 loop-holds c = rw (c .fresh .ensures) fresh-formed
 
-call-within-requires : tie.Need-call-within-requires Inv-loop μ-loop
-call-within-requires c κs =
+call-on-requires : tie.Need-call-on-requires Inv-loop μ-loop
+call-on-requires c κs =
     let b = c .before .before .before .before in
     let l = b .before .before .before .before .before .before .before .before .loop in
     let h = c .before .before .if1 .taken in
@@ -40,5 +40,5 @@ pub list-records-spec : {M : Type 1} → statement M
 list-records-spec =
     tie.close
     (tie.spec Inv-loop μ-loop (λ c κs. search needs) loop-holds (λ c κs. search needs) (λ c κs. search needs) (λ c. search needs) (λ c κs. search needs) (λ c. search needs)
-    (λ c. search needs) (λ c. search needs) (λ c. search needs) call-within-requires (λ c. search needs) (λ c. search needs) (λ c κs. search needs) (λ c κs. search needs) (λ c κs. search needs) (λ c κs. search needs)
+    (λ c. search needs) (λ c. search needs) (λ c. search needs) call-on-requires (λ c. search needs) (λ c. search needs) (λ c κs. search needs) (λ c κs. search needs) (λ c κs. search needs) (λ c κs. search needs)
     (λ c. search needs) (λ c κs. search needs) (λ c. search needs) (λ c. search needs) (λ c. search needs) (λ c. search needs) (λ c. search needs) loop-again (λ c. search needs))

@@ -8,7 +8,7 @@ use borrow.Author.Needs.{needs}
 use Rattle.model.specs.States.{locks, lockIn}
 use Rattle.laws.specs.Formed.{lock-formed, ready}
 use Rattle.rules.specs.Plans.{plan-accepts, plan-refuses}
-use Rattle.engine.specs.Within.{lock-read}
+use Rattle.engine.specs.LockCalls.{lock-read}
 use Rattle.transcript.specs.Run.{Course, course-start, course-step, course-refused, course-skip, course-bad, course-end, record-ends}
 use Rattle.transcript.proofs.run.run_records.Statement.{statement}
 use Rattle.transcript.proofs.run.run_records.Tie as tie

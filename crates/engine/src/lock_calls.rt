@@ -1,5 +1,6 @@
-// The calls on one lock's state that is known to be well formed: the tests that are left to a call, then its step. A call is planned first, and the
-// state is written only where the plan accepts.
+// The calls on one lock's state that is known to be well formed, for runs of calls: the cluster is tested once, and every call keeps it well formed
+// (laws/specs/Clusters.antt). What is left of a call are its tests on that state, and its step. `plan_call` gives the answer and what is to be
+// written, and writes nothing; `carry_out` makes an accepted step; `call_on` does both; `lock_of` is the call's lock, whose range the caller tests.
 use model::Answer;
 use model::Call;
 use model::ClientId;
@@ -15,8 +16,6 @@ use model::TASKS;
 use model::TaskId;
 use parts::state::status_at;
 use parts::wire::is_named;
-use rules::plan::Plan;
-use rules::plan::carry_out;
 use rules::plan::refuse;
 use rules::steps::plan_acquire;
 use rules::steps::plan_deliver;
@@ -32,22 +31,24 @@ ghost use Rattle.model.specs.Calls.{isIdle, isHolding};
 ghost use Rattle.laws.specs.Shapes.{CanonicalWire};
 ghost use Rattle.laws.specs.CallSteps.{lockOf};
 ghost use Rattle.rules.specs.Plans.{Plans};
-ghost use Rattle.engine.specs.Within.{idleTests, acquireTests, holdingTests, releaseTests, acquireWithin, releaseWithin, deliverWithin, callWithin};
+ghost use Rattle.engine.specs.LockCalls.{idleTests, acquireTests, holdingTests, releaseTests, acquireOn, releaseOn, deliverOn, callOn};
+pub use rules::plan::Plan;
+pub use rules::plan::carry_out;
 
-pub fn client_of(k: MachineId, t: TaskId) -> ClientId
+fn client_of(k: MachineId, t: TaskId) -> ClientId
     requires { ⌜ (k .0 < machines) × (t .0 < tasks) ⌝ }
     ensures { λ r. ⌜ r ≡ clientOf k t ⌝ }
 {
     ClientId(TASKS as u8 * k.0 + t.0)
 }
 
-pub fn is_mode(m: u8) -> bool
+fn is_mode(m: u8) -> bool
     ensures { λ r. ⌜ r ≡ eqb m 2 || eqb m 3 ⌝ }
 {
     if m == 2 { true } else { m == 3 }
 }
 
-pub fn mode_of(m: u8) -> Mode
+fn mode_of(m: u8) -> Mode
     ensures { λ r. ⌜ r ≡ modeOf m ⌝ }
 {
     if m == 2 {
@@ -57,7 +58,7 @@ pub fn mode_of(m: u8) -> Mode
     }
 }
 
-pub fn is_idle(st: Status) -> bool
+fn is_idle(st: Status) -> bool
     ensures { λ r. ⌜ r ≡ isIdle st ⌝ }
 {
     match st {
@@ -67,7 +68,7 @@ pub fn is_idle(st: Status) -> bool
     }
 }
 
-pub fn is_holding(st: Status) -> bool
+pub(crate) fn is_holding(st: Status) -> bool
     ensures { λ r. ⌜ r ≡ isHolding st ⌝ }
 {
     match st {
@@ -78,7 +79,7 @@ pub fn is_holding(st: Status) -> bool
 }
 
 // The client is idle, and no packet names it.
-pub fn idle_test(s: LockState, c: ClientId) -> Answer
+fn idle_test(s: LockState, c: ClientId) -> Answer
     requires { ⌜ CanonicalWire (s .wire) ⌝ }
     ensures { λ r. ⌜ r ≡ first (idleTests s c) ⌝ }
 {
@@ -94,7 +95,7 @@ pub fn idle_test(s: LockState, c: ClientId) -> Answer
     }
 }
 
-pub fn acquire_test(s: LockState, k: MachineId, t: TaskId, m: u8) -> Answer
+fn acquire_test(s: LockState, k: MachineId, t: TaskId, m: u8) -> Answer
     requires { ⌜ CanonicalWire (s .wire) ⌝ }
     ensures { λ r. ⌜ r ≡ first (acquireTests s k t m) ⌝ }
 {
@@ -109,7 +110,7 @@ pub fn acquire_test(s: LockState, k: MachineId, t: TaskId, m: u8) -> Answer
     }
 }
 
-pub fn holding_test(s: LockState, c: ClientId) -> Answer
+fn holding_test(s: LockState, c: ClientId) -> Answer
     ensures { λ r. ⌜ r ≡ first (holdingTests s c) ⌝ }
 {
     let clients = s.clients;
@@ -120,7 +121,7 @@ pub fn holding_test(s: LockState, c: ClientId) -> Answer
     }
 }
 
-pub fn release_test(s: LockState, k: MachineId, t: TaskId) -> Answer
+fn release_test(s: LockState, k: MachineId, t: TaskId) -> Answer
     ensures { λ r. ⌜ r ≡ first (releaseTests s k t) ⌝ }
 {
     if MACHINES as u8 <= k.0 {
@@ -132,9 +133,9 @@ pub fn release_test(s: LockState, k: MachineId, t: TaskId) -> Answer
     }
 }
 
-pub fn acquire_within(s: LockState, k: MachineId, t: TaskId, m: u8) -> Plan
+fn acquire_on(s: LockState, k: MachineId, t: TaskId, m: u8) -> Plan
     requires { ⌜ lockFormed s ≡ true ⌝ }
-    ensures { λ r. ⌜ Plans r s (acquireWithin s k t m) ⌝ }
+    ensures { λ r. ⌜ Plans r s (acquireOn s k t m) ⌝ }
 {
     let a = acquire_test(s, k, t, m);
     match a {
@@ -143,9 +144,9 @@ pub fn acquire_within(s: LockState, k: MachineId, t: TaskId, m: u8) -> Plan
     }
 }
 
-pub fn release_within(s: LockState, k: MachineId, t: TaskId) -> Plan
+fn release_on(s: LockState, k: MachineId, t: TaskId) -> Plan
     requires { ⌜ lockFormed s ≡ true ⌝ }
-    ensures { λ r. ⌜ Plans r s (releaseWithin s k t) ⌝ }
+    ensures { λ r. ⌜ Plans r s (releaseOn s k t) ⌝ }
 {
     let a = release_test(s, k, t);
     match a {
@@ -154,9 +155,9 @@ pub fn release_within(s: LockState, k: MachineId, t: TaskId) -> Plan
     }
 }
 
-pub fn deliver_within(s: LockState, i: u8) -> Plan
+fn deliver_on(s: LockState, i: u8) -> Plan
     requires { ⌜ lockFormed s ≡ true ⌝ }
-    ensures { λ r. ⌜ Plans r s (deliverWithin s i) ⌝ }
+    ensures { λ r. ⌜ Plans r s (deliverOn s i) ⌝ }
 {
     if i < s.wire.len {
         plan_deliver(s, i)
@@ -187,7 +188,7 @@ pub fn lock_of(c: Call) -> LockId
 // The call on the state of its lock, planned.
 pub fn plan_call(c: Call, s: LockState) -> Plan
     requires { ⌜ lockFormed s ≡ true ⌝ }
-    ensures { λ r. ⌜ Plans r s (callWithin c s) ⌝ }
+    ensures { λ r. ⌜ Plans r s (callOn c s) ⌝ }
 {
     match c {
         Call::Acquire {
@@ -195,20 +196,20 @@ pub fn plan_call(c: Call, s: LockState) -> Plan
             machine,
             task,
             mode,
-        } => acquire_within(s, machine, task, mode),
+        } => acquire_on(s, machine, task, mode),
         Call::Release {
             lock: _,
             machine,
             task,
-        } => release_within(s, machine, task),
-        Call::Deliver { lock: _, index } => deliver_within(s, index),
+        } => release_on(s, machine, task),
+        Call::Deliver { lock: _, index } => deliver_on(s, index),
     }
 }
 
 // The call on the state of its lock, made.
-pub fn call_within(c: Call, s: LockState) -> Stepped
+pub fn call_on(c: Call, s: LockState) -> Stepped
     requires { ⌜ lockFormed s ≡ true ⌝ }
-    ensures { λ r. ⌜ r ≡ callWithin c s ⌝ }
+    ensures { λ r. ⌜ r ≡ callOn c s ⌝ }
 {
     let p = plan_call(c, s);
     let a = p.answer;

@@ -1,6 +1,6 @@
 use Rattle.engine.proofs.Calls.{_≡_, sym, _∙_, true, false, needs, statusOf, first, isIdle}
-use Rattle.engine.proofs.within.idle_test.Statement.{statement}
-use Rattle.engine.proofs.within.idle_test.Tie as tie
+use Rattle.engine.proofs.lock_calls.idle_test.Statement.{statement}
+use Rattle.engine.proofs.lock_calls.idle_test.Tie as tie
 
 returns : tie.Need-returns
 unfolding first

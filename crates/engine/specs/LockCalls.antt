@@ -50,14 +50,14 @@ unfoldable pub stepUnless : Answer → LockState → Stepped → Stepped
 stepUnless Accepted s r = r
 stepUnless (Refused n) s r = refused n s
 
-unfoldable pub acquireWithin : LockState → MachineId → TaskId → ℕ → Stepped
-acquireWithin s k t m = stepUnless (first (acquireTests s k t m)) s (acquireStep s (clientOf k t) (modeOf m))
+unfoldable pub acquireOn : LockState → MachineId → TaskId → ℕ → Stepped
+acquireOn s k t m = stepUnless (first (acquireTests s k t m)) s (acquireStep s (clientOf k t) (modeOf m))
 
-unfoldable pub releaseWithin : LockState → MachineId → TaskId → Stepped
-releaseWithin s k t = stepUnless (first (releaseTests s k t)) s (releaseStep s (clientOf k t))
+unfoldable pub releaseOn : LockState → MachineId → TaskId → Stepped
+releaseOn s k t = stepUnless (first (releaseTests s k t)) s (releaseStep s (clientOf k t))
 
-unfoldable pub deliverWithin : LockState → ℕ → Stepped
-deliverWithin s i = stepUnless (first (deliverTests s i)) s (deliverStep s i)
+unfoldable pub deliverOn : LockState → ℕ → Stepped
+deliverOn s i = stepUnless (first (deliverTests s i)) s (deliverStep s i)
 
 -- ---- a cause that does not hold
 pub first-no : (n : Refusal) {b : Bool} (cs : List Cause) → b ≡ false → first ((n when b) ∷ cs) ≡ first cs
@@ -82,11 +82,11 @@ pub lock-read : (x : Cluster) (l : LockId) (d : LockState) → wellFormed x ≡ 
 lock-read x l d e h = getD-any (x .locks) (l .0) d freshLock (omega (arith, all-locks x e, h))
 
 -- ---- a call is its tests on the cluster, and then the step on one lock
-unless-within : (a : Answer) (x : Cluster) (l : LockId) (s : LockState) (r : Stepped)
+unless-on : (a : Answer) (x : Cluster) (l : LockId) (s : LockState) (r : Stepped)
     → unless a x l r ≡ settled (stepUnless a s r .answer) x l (stepUnless a s r .state)
 unfolding unless settled stepUnless
-unless-within Accepted x l s r = refl
-unless-within (Refused n) x l s r = refl
+unless-on Accepted x l s r = refl
+unless-on (Refused n) x l s r = refl
 
 module _ (x : Cluster) (l : LockId) where
   abbrev causes : List Cause → List Cause
@@ -103,35 +103,35 @@ module _ (x : Cluster) (l : LockId) where
   entered : (cs : List Cause) (s : LockState) (r : Stepped) → wellFormed x ≡ true → l .0 < locks
       → unless (first (causes cs)) x l r ≡ settled (stepUnless (first cs) s r .answer) x l (stepUnless (first cs) s r .state)
   unfolding first
-  entered cs s r e h = rw (e, lt-leb locks (l .0) h) (unless-within (first cs) x l s r)
+  entered cs s r e h = rw (e, lt-leb locks (l .0) h) (unless-on (first cs) x l s r)
 
-  acquire-within : (k : MachineId) (t : TaskId) (m : ℕ) → wellFormed x ≡ true → l .0 < locks
-      → acquire x l k t m ≡ settled (acquireWithin (lockIn x l) k t m .answer) x l (acquireWithin (lockIn x l) k t m .state)
-  unfolding acquire acquireWithin
-  acquire-within k t m e h = entered _ (lockIn x l) _ e h
+  acquire-on : (k : MachineId) (t : TaskId) (m : ℕ) → wellFormed x ≡ true → l .0 < locks
+      → acquire x l k t m ≡ settled (acquireOn (lockIn x l) k t m .answer) x l (acquireOn (lockIn x l) k t m .state)
+  unfolding acquire acquireOn
+  acquire-on k t m e h = entered _ (lockIn x l) _ e h
 
-  release-within : (k : MachineId) (t : TaskId) → wellFormed x ≡ true → l .0 < locks
-      → release x l k t ≡ settled (releaseWithin (lockIn x l) k t .answer) x l (releaseWithin (lockIn x l) k t .state)
-  unfolding release releaseWithin
-  release-within k t e h = entered _ (lockIn x l) _ e h
+  release-on : (k : MachineId) (t : TaskId) → wellFormed x ≡ true → l .0 < locks
+      → release x l k t ≡ settled (releaseOn (lockIn x l) k t .answer) x l (releaseOn (lockIn x l) k t .state)
+  unfolding release releaseOn
+  release-on k t e h = entered _ (lockIn x l) _ e h
 
-  deliver-within : (i : ℕ) → wellFormed x ≡ true → l .0 < locks
-      → deliver x l i ≡ settled (deliverWithin (lockIn x l) i .answer) x l (deliverWithin (lockIn x l) i .state)
-  unfolding deliver deliverWithin
-  deliver-within i e h = entered _ (lockIn x l) _ e h
+  deliver-on : (i : ℕ) → wellFormed x ≡ true → l .0 < locks
+      → deliver x l i ≡ settled (deliverOn (lockIn x l) i .answer) x l (deliverOn (lockIn x l) i .state)
+  unfolding deliver deliverOn
+  deliver-on i e h = entered _ (lockIn x l) _ e h
 
 -- ---- a call as data on its lock's state
-unfoldable pub callWithin : Call → LockState → Stepped
-callWithin (AcquireCall l k t m) s = acquireWithin s k t m
-callWithin (ReleaseCall l k t) s = releaseWithin s k t
-callWithin (DeliverCall l i) s = deliverWithin s i
+unfoldable pub callOn : Call → LockState → Stepped
+callOn (AcquireCall l k t m) s = acquireOn s k t m
+callOn (ReleaseCall l k t) s = releaseOn s k t
+callOn (DeliverCall l i) s = deliverOn s i
 
-perform-within : (c : Call) (x : Cluster) → wellFormed x ≡ true → lockOf c .0 < locks
-    → perform c x ≡ settled (callWithin c (lockIn x (lockOf c)) .answer) x (lockOf c) (callWithin c (lockIn x (lockOf c)) .state)
-unfolding perform callWithin
-perform-within (AcquireCall l k t m) x e h = acquire-within x l k t m e h
-perform-within (ReleaseCall l k t) x e h = release-within x l k t e h
-perform-within (DeliverCall l i) x e h = deliver-within x l i e h
+perform-on : (c : Call) (x : Cluster) → wellFormed x ≡ true → lockOf c .0 < locks
+    → perform c x ≡ settled (callOn c (lockIn x (lockOf c)) .answer) x (lockOf c) (callOn c (lockIn x (lockOf c)) .state)
+unfolding perform callOn
+perform-on (AcquireCall l k t m) x e h = acquire-on x l k t m e h
+perform-on (ReleaseCall l k t) x e h = release-on x l k t e h
+perform-on (DeliverCall l i) x e h = deliver-on x l i e h
 
 pub perform-malformed : (c : Call) (x : Cluster) → wellFormed x ≡ false → perform c x ≡ refusing Malformed x
 unfolding perform acquire release deliver
@@ -151,28 +151,28 @@ unfolding stepUnless
 unless-refused Accepted s c r e = step-refused c s r e
 unless-refused (Refused n) s c r e = refl
 
-within-refused : (c : Call) (s : LockState) (r : Refusal) → callWithin c s .answer ≡ Refused r → callWithin c s .state ≡ s
-unfolding callWithin acquireWithin releaseWithin deliverWithin
-within-refused (AcquireCall l k t m) s r e = unless-refused (first (acquireTests s k t m)) s (AcquireCall l k t m) r e
-within-refused (ReleaseCall l k t) s r e = unless-refused (first (releaseTests s k t)) s (ReleaseCall l k t) r e
-within-refused (DeliverCall l i) s r e = unless-refused (first (deliverTests s i)) s (DeliverCall l i) r e
+on-refused : (c : Call) (s : LockState) (r : Refusal) → callOn c s .answer ≡ Refused r → callOn c s .state ≡ s
+unfolding callOn acquireOn releaseOn deliverOn
+on-refused (AcquireCall l k t m) s r e = unless-refused (first (acquireTests s k t m)) s (AcquireCall l k t m) r e
+on-refused (ReleaseCall l k t) s r e = unless-refused (first (releaseTests s k t)) s (ReleaseCall l k t) r e
+on-refused (DeliverCall l i) s r e = unless-refused (first (deliverTests s i)) s (DeliverCall l i) r e
 
 -- A call writes its lock's state in its place, accepted or refused.
 abbrev pub writtenBy : Call → Cluster → Cluster
-writtenBy c x = record { locks = set (x .locks) (lockOf c .0) (callWithin c (lockIn x (lockOf c)) .state) }
+writtenBy c x = record { locks = set (x .locks) (lockOf c .0) (callOn c (lockIn x (lockOf c)) .state) }
 
 pub perform-whole : (c : Call) (x : Cluster) → wellFormed x ≡ true → lockOf c .0 < locks
-    → perform c x ≡ record { answer = callWithin c (lockIn x (lockOf c)) .answer; cluster = writtenBy c x }
+    → perform c x ≡ record { answer = callOn c (lockIn x (lockOf c)) .answer; cluster = writtenBy c x }
 unfolding settled
-perform-whole c x e h = rw (perform-within c x e h) (go (callWithin c (lockIn x (lockOf c)) .answer) refl)
+perform-whole c x e h = rw (perform-on c x e h) (go (callOn c (lockIn x (lockOf c)) .answer) refl)
   where
-    go : (a : Answer) → callWithin c (lockIn x (lockOf c)) .answer ≡ a
-        → settled a x (lockOf c) (callWithin c (lockIn x (lockOf c)) .state) ≡ record { answer = a; cluster = writtenBy c x }
+    go : (a : Answer) → callOn c (lockIn x (lockOf c)) .answer ≡ a
+        → settled a x (lockOf c) (callOn c (lockIn x (lockOf c)) .state) ≡ record { answer = a; cluster = writtenBy c x }
     go Accepted q = refl
-    go (Refused r) q = rw (within-refused c (lockIn x (lockOf c)) r q, set-getD (x .locks) (lockOf c .0) freshLock)
+    go (Refused r) q = rw (on-refused c (lockIn x (lockOf c)) r q, set-getD (x .locks) (lockOf c .0) freshLock)
 
 -- the call by its plan: written where it accepts, the cluster left where it refuses
-module _ (c : Call) (x : Cluster) (p : Plan) (e : wellFormed x ≡ true) (h : lockOf c .0 < locks) (g : Plans p (lockIn x (lockOf c)) (callWithin c (lockIn x (lockOf c)))) where
+module _ (c : Call) (x : Cluster) (p : Plan) (e : wellFormed x ≡ true) (h : lockOf c .0 < locks) (g : Plans p (lockIn x (lockOf c)) (callOn c (lockIn x (lockOf c)))) where
   pub perform-accepts : p .answer ≡ Accepted
       → record { answer = p .answer; cluster = record { locks = set (x .locks) (lockOf c .0) (carriedOut p (lockIn x (lockOf c))) } } ≡ perform c x
   perform-accepts q = rw (q, perform-whole c x e h, ← plan-accepts g q)

@@ -1,6 +1,6 @@
 use Rattle.engine.proofs.Calls.{_≡_, sym, _∙_, false, _||_, not, eqb, needs, le-leb, lt-leb, first, first-no, machines, tasks}
-use Rattle.engine.proofs.within.acquire_test.Statement.{statement}
-use Rattle.engine.proofs.within.acquire_test.Tie as tie
+use Rattle.engine.proofs.lock_calls.acquire_test.Statement.{statement}
+use Rattle.engine.proofs.lock_calls.acquire_test.Tie as tie
 
 returns : tie.Need-returns
 unfolding first

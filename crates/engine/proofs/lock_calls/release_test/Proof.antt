@@ -1,6 +1,6 @@
 use Rattle.engine.proofs.Calls.{needs, le-leb, lt-leb, first, machines, tasks}
-use Rattle.engine.proofs.within.release_test.Statement.{statement}
-use Rattle.engine.proofs.within.release_test.Tie as tie
+use Rattle.engine.proofs.lock_calls.release_test.Statement.{statement}
+use Rattle.engine.proofs.lock_calls.release_test.Tie as tie
 
 returns : tie.Need-returns
 unfolding first

@@ -1,0 +1,338 @@
+-- The drain of one lock's state, by the same steps as the drain of a cluster, without its calls' tests.
+use mathlib.Core.Path.{_≡_, refl, sym, ap, _∙_}
+use mathlib.Core.Bool.{Bool, true, false, true≢false, false≢true}
+use mathlib.Core.List.{List, [], _∷_}
+use Prim.Native.Nat.{ℕ, zero, suc, _+_, _-_, _*_, _/_, _%_, _<_, _≤_}
+use native.Mathlib.Omega.{arith}
+use native.Mathlib.Numerals.{add-one, sub-one}
+use lib.ListN.{length, drop, getD, set, drop-of-length-le}
+use lib.Seq.{set-set, set-getD, getD-set-same, drop-cons}
+use borrow.Author.Tests.{lt-leb, le-leb}
+use Rattle.model.specs.Lists.{pick}
+use Rattle.engine.specs.Names.{LockId, Packet, ClientState, LockState, Cluster, Call, ReleaseCall, DeliverCall, Refusal, Malformed, LockRange}
+use Rattle.engine.specs.Names.{NotQuiescent, Answer, Accepted, Refused, Stepped}
+use Rattle.model.specs.States.{locks, tasks, clients, packets, lockIn, freshLock}
+use Rattle.model.specs.WellFormed.{lockFormed, wellFormed}
+use Rattle.model.specs.Refusals.{first}
+use Rattle.model.specs.Calls.{isHolding, releaseStep, deliverStep, settled, perform}
+use Rattle.model.specs.Drain.{allowance, Next, none, some, releaseFirst, nextOf, nextCall, Drainage, ending, drainage, drainRefused, drainEnded, drainUnless, drain}
+use Rattle.laws.specs.Formed.{all-locks, parts, ready}
+use Rattle.laws.specs.Shapes.{length-packets}
+use Rattle.laws.specs.CallSteps.{stepOf}
+use Rattle.laws.specs.Clusters.{perform-formed}
+use Rattle.laws.specs.FormedStep.{release-formed, deliver-formed}
+use Rattle.laws.specs.Next.{next-is, Goes, goes}
+use Rattle.rules.specs.declared.plan.Plan.{Plan}
+use Rattle.rules.specs.Plans.{Plans, carriedOut, plan-accepts, plan-refuses}
+use Rattle.engine.specs.declared.draining.Draining.{Draining}
+
+abbrev pub endedWith : Answer → Draining → Draining
+endedWith a d = record { ended = true; answer = a; left = d .left; state = d .state }
+
+abbrev ends : Answer → ℕ → LockState → Draining
+ends a left s = record { ended = true; answer = a; left = left; state = s }
+
+-- with so many steps left
+unfoldable pub drainState : ℕ → LockId → LockState → Draining
+drainState zero l s = elim (nextCall l s) [ none ↦ ends Accepted zero s | some c ↦ ends (Refused NotQuiescent) zero s ]
+drainState (suc left) l s =
+    elim (nextCall l s) [
+      | none ↦ ends Accepted (suc left) s
+      | some c ↦ elim (stepOf c s .answer) [ Accepted ↦ drainState left l (stepOf c s .state) | Refused r ↦ ends (Refused r) (suc left) s ]
+    ]
+
+-- what is left to do of a drain that came so far
+abbrev pub drainOn : LockId → Draining → Draining
+drainOn l d = drainState (d .left) l (d .state)
+
+-- ---- each way on, as the code takes it
+module _ (l : LockId) (s : LockState) where
+  state-quiescent : (left : ℕ) → nextCall l s ≡ none → ends Accepted left s ≡ drainState left l s
+  unfolding drainState
+  state-quiescent zero e = rw (e, drainState)
+  state-quiescent (suc left) e = rw (e, drainState)
+
+  module _ (c : Call) (e : nextCall l s ≡ some c) where
+    state-spent : ends (Refused NotQuiescent) 0 s ≡ drainState 0 l s
+    unfolding drainState
+    state-spent = rw (e, drainState)
+
+    state-goes : (left : ℕ) → 0 < left → stepOf c s .answer ≡ Accepted → drainState (left - 1) l (stepOf c s .state) ≡ drainState left l s
+    unfolding drainState
+    state-goes zero h a = absurd (omega arith)
+    state-goes (suc left) h a = rw sub-one (sym (rw (e, drainState) (rw a)))
+
+    state-refuses : (left : ℕ) (r : Refusal) → 0 < left → stepOf c s .answer ≡ Refused r → ends (Refused r) left s ≡ drainState left l s
+    unfolding drainState
+    state-refuses zero r h a = absurd (omega arith)
+    state-refuses (suc left) r h a = rw (e, drainState) (rw a)
+
+-- ---- the drain of a cluster is that of its lock's state
+-- the cluster with the lock in another state
+abbrev pub placed : Cluster → LockId → LockState → Cluster
+placed x l s = record { locks = set (x .locks) (l .0) s }
+
+record Agree (left : ℕ) (x : Cluster) (l : LockId) (d : Drainage) (w : Draining) : Type 0 where
+  answer : d .answer ≡ w .answer
+  count : length (d .calls) + w .left ≡ left
+  cluster : d .cluster ≡ placed x l (w .state)
+
+-- where neither makes a step
+agree-here : (left : ℕ) (x : Cluster) (l : LockId) (a : Answer) → Agree left x l (ending a x) (ends a left (lockIn x l))
+agree-here left x l a = record { answer = refl; count = omega arith; cluster = rw (set-getD (x .locks) (l .0) freshLock) }
+
+-- the next call is the lock's step, put in its place
+module _ (l : LockId) (x : Cluster) (c : Call) (g : Goes l x c) where
+  call-answer : perform c x .answer ≡ stepOf c (lockIn x l) .answer
+  unfolding settled
+  call-answer = rw (g .step, g .lock) (go (stepOf c (lockIn x l) .answer))
+    where
+      go : (a : Answer) → settled a x l (stepOf c (lockIn x l) .state) .answer ≡ a
+      go Accepted = refl
+      go (Refused r) = refl
+
+  call-cluster : stepOf c (lockIn x l) .answer ≡ Accepted → perform c x .cluster ≡ placed x l (stepOf c (lockIn x l) .state)
+  unfolding settled
+  call-cluster e = rw (g .step, g .lock, e)
+
+agree : (left : ℕ) (x : Cluster) (l : LockId) → wellFormed x ≡ true → l .0 < locks → Agree left x l (drainage left l x) (drainState left l (lockIn x l))
+unfolding drainage drainState
+agree zero x l w h = go (nextCall l (lockIn x l)) refl
+  where
+    go : (m : Next) → nextCall l (lockIn x l) ≡ m → Agree zero x l (drainage zero l x) (drainState zero l (lockIn x l))
+    go none e = rw (e, drainage, drainState) (agree-here zero x l Accepted)
+    go (some c) e = rw (e, drainage, drainState) (agree-here zero x l (Refused NotQuiescent))
+agree (suc left) x l w h = go (nextCall l (lockIn x l)) refl (λ y v. agree left y l v h)
+  where
+    Now : Type 0
+    Now = Agree (suc left) x l (drainage (suc left) l x) (drainState (suc left) l (lockIn x l))
+
+    Later : Type 0
+    Later = (y : Cluster) → wellFormed y ≡ true → Agree left y l (drainage left l y) (drainState left l (lockIn y l))
+
+    by-step : (c : Call) → Goes l x c → nextCall l (lockIn x l) ≡ some c → (a : Answer) → stepOf c (lockIn x l) .answer ≡ a → Later → Now
+    by-step c g e Accepted q ih =
+        let s = stepOf c (lockIn x l) .state in
+        let y = placed x l s in
+        let p : perform c x .cluster ≡ y = call-cluster l x c g q in
+        let here : lockIn y l ≡ s = getD-set-same (x .locks) (l .0) s freshLock (rw (all-locks x w) h) in
+        let i : Agree left y l (drainage left l y) (drainState left l s) = rw here at (ih y (rw p at (perform-formed c x w))) in
+        rw (e, drainage, drainState) (rw (call-answer l x c g, q, p)
+        (record { answer = i .answer; count = omega (arith, i .count); cluster = i .cluster ∙ rw (set-set (x .locks) (l .0) s _) }))
+    by-step c g e (Refused r) q ih = rw (e, drainage, drainState) (rw (call-answer l x c g, q) (agree-here (suc left) x l (Refused r)))
+
+    go : (m : Next) → nextCall l (lockIn x l) ≡ m → Later → Now
+    go none e ih = rw (e, drainage, drainState) (agree-here (suc left) x l Accepted)
+    go (some c) e ih = by-step c (goes l x c w h (next-is l (lockIn x l) c e)) e (stepOf c (lockIn x l) .answer) refl ih
+
+-- what the drain gives, by how that of the lock's state ended
+module _ (x : Cluster) (l : LockId) (w : wellFormed x ≡ true) (h : l .0 < locks) {s : LockState} (e : s ≡ lockIn x l) {v : Draining} (q : v ≡ drainState allowance l s) where
+  agreed : Agree allowance x l (drainage allowance l x) v
+  agreed = rw (q, e) (agree allowance x l w h)
+
+  pub made : length (drainage allowance l x .calls) + v .left ≡ allowance
+  made = agreed .count
+
+  drain-by : drain x l ≡ drainEnded (v .answer) x (drainage allowance l x)
+  unfolding drain drainUnless first
+  drain-by = rw (w, lt-leb locks (l .0) h) (ap (λ (r : Answer). drainEnded r x (drainage allowance l x)) (agreed .answer))
+
+  pub drain-ends : v .answer ≡ Accepted → record { answer = Accepted; count = allowance - v .left; cluster = placed x l (v .state) } ≡ drain x l
+  unfolding drainEnded
+  drain-ends a =
+      let n : length (drainage allowance l x .calls) ≡ allowance - v .left = omega (arith, made) in
+      sym (drain-by ∙ rw (a, n, agreed .cluster))
+
+  pub drain-stops : (r : Refusal) → v .answer ≡ Refused r → drainRefused r x ≡ drain x l
+  unfolding drainEnded
+  drain-stops r a = sym (drain-by ∙ rw a)
+
+-- the tests before it
+pub drain-malformed : (x : Cluster) (l : LockId) → wellFormed x ≡ false → drainRefused Malformed x ≡ drain x l
+unfolding drain drainUnless first
+drain-malformed x l w = rw w
+
+pub drain-range : (x : Cluster) (l : LockId) → wellFormed x ≡ true → locks ≤ l .0 → drainRefused LockRange x ≡ drain x l
+unfolding drain drainUnless first
+drain-range x l w h = rw (w, le-leb locks (l .0) h)
+
+-- ---- what the drain does next, as the code finds it
+-- the number of the first client that holds, counted from n, or the number past the last
+unfoldable pub holderFrom : ℕ → List ClientState → ℕ
+holderFrom n [] = n
+holderFrom n (c ∷ cs) = pick (isHolding (c .status)) n (holderFrom (suc n) cs)
+
+-- a loop over all of xs keeps `holderFrom j (drop j xs)`
+module _ (xs : List ClientState) (j : ℕ) (d : ClientState) where
+  pub holder-here : j < length xs → isHolding (getD xs j d .status) ≡ true → holderFrom j (drop j xs) ≡ j
+  unfolding holderFrom
+  holder-here h e = rw (drop-cons xs j d, e)
+
+  pub holder-next : j < length xs → isHolding (getD xs j d .status) ≡ false → holderFrom (j + 1) (drop (j + 1) xs) ≡ holderFrom j (drop j xs)
+  unfolding holderFrom
+  holder-next h e = rw (add-one, drop-cons xs j d, e)
+
+  pub holder-end : length xs ≤ j → holderFrom j (drop j xs) ≡ j
+  unfolding holderFrom
+  holder-end h = rw drop-of-length-le
+
+holder-below : (n : ℕ) (cs : List ClientState) → n ≤ holderFrom n cs
+unfolding holderFrom
+holder-below n [] = omega arith
+holder-below n (c ∷ cs) = go (isHolding (c .status)) (holder-below (suc n) cs)
+  where
+    go : (b : Bool) → suc n ≤ holderFrom (suc n) cs → n ≤ pick b n (holderFrom (suc n) cs)
+    go true h = omega arith
+    go false h = omega arith
+
+-- the release by the client of that number
+abbrev pub releaseBy : LockId → ℕ → Call
+releaseBy l c = ReleaseCall l (record { 0 = c / tasks }) (record { 0 = c % tasks })
+
+holder-found : (l : LockId) (n : ℕ) (cs : List ClientState) → holderFrom n cs < n + length cs
+    → releaseFirst l n cs ≡ some (releaseBy l (holderFrom n cs))
+unfolding releaseFirst holderFrom
+holder-found l n [] h = absurd (omega arith)
+holder-found l n (c ∷ cs) h = go (isHolding (c .status)) h (holder-found l (suc n) cs)
+  where
+    go : (b : Bool) → pick b n (holderFrom (suc n) cs) < n + suc (length cs)
+        → (holderFrom (suc n) cs < suc n + length cs → releaseFirst l (suc n) cs ≡ some (releaseBy l (holderFrom (suc n) cs)))
+        → pick b (some (releaseBy l n)) (releaseFirst l (suc n) cs)
+        ≡ some (releaseBy l (pick b n (holderFrom (suc n) cs)))
+    go true h ih = refl
+    go false h ih = ih (omega arith)
+
+holder-none : (l : LockId) (n : ℕ) (cs : List ClientState) → n + length cs ≤ holderFrom n cs → releaseFirst l n cs ≡ none
+unfolding releaseFirst holderFrom
+holder-none l n [] h = refl
+holder-none l n (c ∷ cs) h = go (isHolding (c .status)) h (holder-none l (suc n) cs)
+  where
+    go : (b : Bool) → n + suc (length cs) ≤ pick b n (holderFrom (suc n) cs) → (suc n + length cs ≤ holderFrom (suc n) cs → releaseFirst l (suc n) cs ≡ none)
+        → pick b (some (releaseBy l n)) (releaseFirst l (suc n) cs) ≡ none
+    go true h ih = absurd (omega arith)
+    go false h ih = ih (omega arith)
+
+module _ (l : LockId) (s : LockState) where
+  pub next-delivers : 0 < length (packets (s .wire)) → nextCall l s ≡ some (DeliverCall l 0)
+  unfolding nextOf
+  next-delivers h = go (packets (s .wire)) h
+    where
+      go : (ps : List Packet) → 0 < length ps → nextOf l ps (s .clients) ≡ some (DeliverCall l 0)
+      go [] h = absurd (omega arith)
+      go (p ∷ ps) h = refl
+
+  no-packets : (ps : List Packet) → length ps ≡ 0 → nextOf l ps (s .clients) ≡ releaseFirst l 0 (s .clients)
+  unfolding nextOf
+  no-packets [] e = refl
+  no-packets (p ∷ ps) e = absurd (omega arith)
+
+  pub next-releases : length (packets (s .wire)) ≡ 0 → holderFrom 0 (s .clients) < length (s .clients)
+      → nextCall l s ≡ some (releaseBy l (holderFrom 0 (s .clients)))
+  next-releases e h = no-packets (packets (s .wire)) e ∙ holder-found l 0 (s .clients) (omega arith)
+
+  pub next-none : length (packets (s .wire)) ≡ 0 → length (s .clients) ≤ holderFrom 0 (s .clients) → nextCall l s ≡ none
+  next-none e h = no-packets (packets (s .wire)) e ∙ holder-none l 0 (s .clients) (omega arith)
+
+  -- the step of the release that the drain makes
+  pub release-of : (c : ℕ) → stepOf (releaseBy l c) s ≡ releaseStep s (record { 0 = c })
+  release-of c = let q : tasks * (c / tasks) + c % tasks ≡ c = omega arith in rw q
+
+-- ---- along a phase
+-- d goes on, from a well-formed state
+pub record Open (d : Draining) : Type 0 where
+  pub goes : d .ended ≡ false
+  pub formed : lockFormed (d .state) ≡ true
+
+-- the drain that began as e has come to d: it is the same drain, to go on with or ended
+pub record Progress (e d : Draining) : Type 0 where
+  pub goes : d .ended ≡ false → (l : LockId) → drainOn l d ≡ drainOn l e
+  pub stops : d .ended ≡ true → (l : LockId) → d ≡ drainOn l e
+  pub formed : lockFormed (d .state) ≡ true
+  pub fewer : d .left ≤ e .left
+
+module _ {d : Draining} (o : Open d) where
+  pub progress-start : Progress d d
+  progress-start = record { goes = λ e l. refl; stops = λ e. absurd (true≢false (sym e ∙ o .goes)); formed = o .formed; fewer = omega arith }
+
+  pub progress-more : {e r : Draining} → Progress e d → Progress d r → Progress e r
+  progress-more g n =
+      record {
+        goes = λ z l. n .goes z l ∙ g .goes (o .goes) l;
+        stops = λ z l. n .stops z l ∙ g .goes (o .goes) l;
+        formed = n .formed;
+        fewer = omega (arith, g .fewer, n .fewer);
+      }
+
+-- p plans the drain's next step on t, after which the state is well formed
+pub record Planned (t : LockState) (p : Plan) : Type 0 where
+  pub call : LockId → Call
+  pub gives : Stepped
+  pub next : (l : LockId) → nextCall l t ≡ some (call l)
+  pub step : (l : LockId) → stepOf (call l) t ≡ gives
+  pub plans : Plans p t gives
+  pub formed : lockFormed (gives .state) ≡ true
+
+module _ (t : LockState) (f : lockFormed t ≡ true) where
+  wire-length : length (packets (t .wire)) ≡ t .wire .len
+  wire-length = length-packets (t .wire) (ready t f .wire)
+
+  pub delivery-planned : (p : Plan) → 0 < t .wire .len → Plans p t (deliverStep t 0) → Planned t p
+  delivery-planned p h q =
+      let n : 0 < length (packets (t .wire)) = omega (arith, wire-length) in
+      record {
+        call = λ l. DeliverCall l 0;
+        gives = deliverStep t 0;
+        next = λ l. next-delivers l t n;
+        step = λ l. refl;
+        plans = q;
+        formed = deliver-formed t 0 n f;
+      }
+
+  -- d is what the search for a holder found
+  module _ (e : t .wire .len ≡ 0) (d : ℕ) (q : d ≡ holderFrom 0 (t .clients)) where
+    pub release-planned : (p : Plan) → d < clients → Plans p t (releaseStep t (record { 0 = d })) → Planned t p
+    release-planned p h g =
+        record {
+          call = λ l. releaseBy l d;
+          gives = releaseStep t (record { 0 = d });
+          next = λ l. rw q (next-releases l t (wire-length ∙ e) (omega (arith, parts t f .all-clients)));
+          step = λ l. release-of l t d;
+          plans = g;
+          formed = release-formed t (record { 0 = d }) h f;
+        }
+
+    pub none-holds : clients ≤ d → (l : LockId) → nextCall l t ≡ none
+    none-holds h l = next-none l t (wire-length ∙ e) (omega (arith, parts t f .all-clients))
+
+module _ {d : Draining} (o : Open d) where
+  progress-ends : (a : Answer) → ((l : LockId) → endedWith a d ≡ drainOn l d) → Progress d (endedWith a d)
+  progress-ends a q = record { goes = λ z. absurd (true≢false z); stops = λ z. q; formed = o .formed; fewer = omega arith }
+
+  pub progress-quiescent : ((l : LockId) → nextCall l (d .state) ≡ none) → Progress d (endedWith Accepted d)
+  progress-quiescent n = progress-ends Accepted (λ l. state-quiescent l (d .state) (d .left) (n l))
+
+  module _ {p : Plan} (n : Planned (d .state) p) where
+    pub progress-spent : d .left ≡ 0 → Progress d (endedWith (Refused NotQuiescent) d)
+    progress-spent z = progress-ends (Refused NotQuiescent) (λ l. rw z (state-spent l (d .state) (n .call l) (n .next l)))
+
+    -- the step answers what the plan does
+    answers : (a : Answer) → n .gives .answer ≡ a → (l : LockId) → stepOf (n .call l) (d .state) .answer ≡ a
+    answers a q l = rw (n .step l) q
+
+    module _ (h : 0 < d .left) where
+      pub progress-refused : (r : Refusal) → p .answer ≡ Refused r → Progress d (endedWith (Refused r) d)
+      progress-refused r q =
+          let a = answers (Refused r) (ap (λ (t : Stepped). t .answer) (sym (plan-refuses (n .plans) r q))) in
+          progress-ends (Refused r) (λ l. state-refuses l (d .state) (n .call l) (n .next l) (d .left) r h (a l))
+
+      pub progress-on : p .answer ≡ Accepted → Progress d (record { ended = d .ended; answer = d .answer; left = d .left - 1; state = carriedOut p (d .state) })
+      progress-on q =
+          let t = plan-accepts (n .plans) q in
+          let a = answers Accepted (ap (λ (t : Stepped). t .answer) (sym t)) in
+          rw (ap (λ (t : Stepped). t .state) t)
+          (record {
+            goes = λ z l. rw (n .step l) at (state-goes l (d .state) (n .call l) (n .next l) (d .left) h (a l));
+            stops = λ z. absurd (true≢false (sym z ∙ o .goes));
+            formed = n .formed;
+            fewer = omega arith;
+          })
