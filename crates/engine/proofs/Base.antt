@@ -12,7 +12,7 @@ unfoldable pub use Rattle.model.specs.States.{noAgent, blankPacket}
 pub use Rattle.model.specs.Drain.{allowance}
 pub use Rattle.model.specs.WellFormed.{slotBy}
 pub use Rattle.laws.specs.Shapes.{length-packets}
-pub use Rattle.parts.specs.Scans.{join-next, join-end, first-next, first-end}
+pub use Rattle.parts.specs.Scans.{Joins, joins-next, joins-all, first-next, first-all}
 unfoldable pub use Rattle.model.specs.WellFormed.{shaped, isBlankWaiter, queueFormed, agentFormed, isBlankAgent, slotFormed, messageFormed, packetFormed}
 unfoldable pub use Rattle.model.specs.WellFormed.{isBlankPacket, wireFormed, lockFormed, wellFormed}
 pub use Rattle.engine.specs.FormedLaws.{shaped-short, pass-whole, pass-far, pass-twice, pass-next, pass-end}

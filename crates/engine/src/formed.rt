@@ -50,11 +50,11 @@ fn is_blank_waiter(w: Waiter) -> bool
     (c.0 == 0) & e
 }
 
-fn blank_waiters(a: [Waiter; QUEUE_CAPACITY]) -> bool
-    ensures { λ r. ⌜ r ≡ shaped queueCapacity isBlankWaiter a 0 ⌝ }
+fn shaped_waiters(a: [Waiter; QUEUE_CAPACITY], n: usize) -> bool
+    ensures { λ r. ⌜ r ≡ shaped queueCapacity isBlankWaiter a n ⌝ }
 {
-    let mut ok = true;
-    let mut j: usize = 0;
+    let mut ok = n <= QUEUE_CAPACITY;
+    let mut j = n;
     while j < QUEUE_CAPACITY {
         let w = a[j];
         let b = is_blank_waiter(w);
@@ -85,7 +85,7 @@ fn is_blank_agent(a: Agent) -> bool
     let s = q.slots;
     let exclusive = is_exclusive(m);
     let unheld = no_holder(h);
-    let empty = blank_waiters(s);
+    let empty = shaped_waiters(s, 0);
     exclusive & (unheld & (empty & ((q.len == 0) & (a.incarnation == 0))))
 }
 
@@ -126,20 +126,6 @@ fn is_blank_packet(p: Packet) -> bool
 }
 
 // ---- a queue and an agent
-fn shaped_waiters(a: [Waiter; QUEUE_CAPACITY], n: usize) -> bool
-    ensures { λ r. ⌜ r ≡ shaped queueCapacity isBlankWaiter a n ⌝ }
-{
-    let mut ok = n <= QUEUE_CAPACITY;
-    let mut j = n;
-    while j < QUEUE_CAPACITY {
-        let w = a[j];
-        let b = is_blank_waiter(w);
-        ok = ok & b;
-        j += 1;
-    }
-    ok
-}
-
 // One pass over the first n, with the set of the clients seen so far.
 fn waiters_formed(a: [Waiter; QUEUE_CAPACITY], n: usize) -> bool
     requires { ⌜ n ≤ queueCapacity ⌝ }

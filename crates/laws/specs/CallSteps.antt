@@ -1,22 +1,22 @@
 -- A call on a well-formed cluster, by cases: refused by a test, or every test passed and the call is its step on one lock.
 use mathlib.Core.Path.{_≡_, refl, sym, _∙_}
-use mathlib.Core.Bool.{Bool, true, false, _&&_, _||_, not, true≢false}
+use mathlib.Core.Bool.{Bool, true, false, _&&_, _||_, not, true≢false, false≢true}
 use mathlib.Core.List.{List, [], _∷_}
 use Prim.Native.Nat.{ℕ, _+_, _<_, _≤_}
 use lib.ListN.{length}
 use lib.Seq.{getD-set-same, getD-set-other}
 use lib.Dec.{eqb, leb}
 use borrow.Author.Tests.{eqb-true, leb-true, leb-false, not-false}
-use Rattle.model.specs.Lists.{pick, any, all, removed}
-use Rattle.laws.specs.Names.{LockId, MachineId, TaskId, ClientId, Mode, Exclusive, Shared, Packet, Status, Idle, Waiting, Holding, LockState, Cluster}
-use Rattle.laws.specs.Names.{Call, AcquireCall, ReleaseCall, DeliverCall, Refusal, Malformed, WireFull, Answer, Accepted, Refused, Stepped, Outcome}
+use Rattle.model.specs.Lists.{any, all, removed}
+use Rattle.laws.specs.Names.{LockId, MachineId, TaskId, ClientId, Mode, Packet, Status, Idle, Waiting, Holding, LockState, Cluster}
+use Rattle.laws.specs.Names.{Call, AcquireCall, ReleaseCall, DeliverCall, Refusal, Malformed, Answer, Accepted, Refused, Stepped, Outcome}
 use Rattle.model.specs.States.{clientOf, modeOf, modeNumber, statusOf, packets, lockIn, freshLock, locks, machines, tasks, wireCapacity}
 use Rattle.model.specs.WellFormed.{wellFormed}
-use Rattle.model.specs.Changes.{Verdict, cannot-place, does, apply, accepted, refused, finish}
+use Rattle.model.specs.Changes.{Verdict, cannot-place, does, finish}
 use Rattle.model.specs.Refusals.{refusalNumber, Cause, _when_, first}
 use Rattle.model.specs.Calls.{isIdle, isHolding, names, acquireStep, releaseStep, takes, deliverStep, acquireCauses, releaseCauses, deliverCauses, refusing}
 use Rattle.model.specs.Calls.{settled, unless, acquire, release, deliver, perform}
-use Rattle.laws.specs.Tests.{and-left, and-right}
+use Rattle.laws.specs.Tests.{and-left, and-right, pick-by}
 use Rattle.laws.specs.Formed.{all-locks}
 
 -- ---- a call's lock, and its step on that lock's state
@@ -85,17 +85,14 @@ is-idle Idle e = refl
 is-idle (Waiting m) e = absurd (true≢false e)
 is-idle (Holding m) e = absurd (true≢false e)
 
-is-holding : (st : Status) → not (isHolding st) ≡ false → (n : Mode) × (st ≡ Holding n)
-is-holding Idle e = absurd (true≢false e)
-is-holding (Waiting m) e = absurd (true≢false e)
-is-holding (Holding m) e = (m, refl)
+pub holds : (st : Status) → isHolding st ≡ true → (n : Mode) × (st ≡ Holding n)
+holds Idle e = absurd (false≢true e)
+holds (Waiting m) e = absurd (false≢true e)
+holds (Holding m) e = (m, refl)
 
 mode-number : (m : ℕ) → not (eqb m 2 || eqb m 3) ≡ false → modeNumber (modeOf m) ≡ m
-mode-number m e = go (eqb m 2) refl (not-false (eqb m 2 || eqb m 3) e)
-  where
-    go : (b : Bool) → eqb m 2 ≡ b → (b || eqb m 3) ≡ true → modeNumber (pick b Exclusive Shared) ≡ m
-    go true e2 h = sym (eqb-true m 2 e2)
-    go false e2 h = sym (eqb-true m 3 h)
+mode-number m e =
+    pick-by (λ (n : Mode). modeNumber n ≡ m) (eqb m 2) (λ q. sym (eqb-true m 2 q)) (λ q. sym (eqb-true m 3 (rw q at (not-false (eqb m 2 || eqb m 3) e))))
 
 pub call-cases : (c : Call) (x : Cluster) → wellFormed x ≡ true → CallCases c x
 unfolding perform acquire release deliver
@@ -107,7 +104,7 @@ call-cases (AcquireCall l k t m) x w =
     ))
 call-cases (ReleaseCall l k t) x w =
     cases-by (ReleaseCall l k t) x _ w refl refl (λ n.
-    let h = is-holding _ (n .1 .1 .1 .0) in
+    let h = holds _ (not-false _ (n .1 .1 .1 .0)) in
     (leb-false locks _ (n .0), may-release (leb-false machines _ (n .1 .0)) (leb-false tasks _ (n .1 .1 .0)) (h .0) (h .1)))
 call-cases (DeliverCall l i) x w = cases-by (DeliverCall l i) x _ w refl refl (λ n. (leb-false locks _ (n .0), may-deliver (leb-false _ i (n .1 .0))))
 
@@ -129,14 +126,12 @@ perform-elsewhere (ReleaseCall l k t) x j n = unless-elsewhere (first (releaseCa
 perform-elsewhere (DeliverCall l i) x j n = unless-elsewhere (first (deliverCauses x l i)) x l _ j n
 
 -- a refused step leaves the state as it was
-finish-refused : (k : MachineId) (c : ClientId) (w : Verdict) (rest : List Packet) (s : LockState) (r : Refusal) → finish k c w rest s .answer ≡ Refused r → finish k c w rest s .state ≡ s
+finish-refused : (k : MachineId) (c : ClientId) (w : Verdict) (rest : List Packet) (s : LockState) (r : Refusal) → finish k c w rest s .answer ≡ Refused r
+    → finish k c w rest s .state ≡ s
 unfolding finish
 finish-refused k c cannot-place rest s r e = refl
-finish-refused k c (does v qs) rest s r e = go (leb (length rest + length qs) wireCapacity) e
-  where
-    go : (b : Bool) → pick b (accepted (apply k c v qs rest s)) (refused WireFull s) .answer ≡ Refused r → pick b (accepted (apply k c v qs rest s)) (refused WireFull s) .state ≡ s
-    go true e = cc
-    go false e = refl
+finish-refused k c (does v qs) rest s r e =
+    pick-by (λ (t : Stepped). t .answer ≡ Refused r → t .state ≡ s) (leb (length rest + length qs) wireCapacity) (λ q z. cc) (λ q z. refl) e
 
 pub step-refused : (c : Call) (s : LockState) (r : Refusal) → stepOf c s .answer ≡ Refused r → stepOf c s .state ≡ s
 unfolding acquireStep releaseStep deliverStep takes
@@ -144,14 +139,12 @@ step-refused (AcquireCall l k t m) s r e = finish-refused _ _ _ (packets (s .wir
 step-refused (ReleaseCall l k t) s r e = finish-refused _ _ _ (packets (s .wire)) s r e
 step-refused (DeliverCall l i) s r e = finish-refused _ _ _ (removed (packets (s .wire)) i) s r e
 
-outcome-here : (c : Call) (x : Cluster) → lockOf c .0 < length (x .locks) → lockIn (outcomeOf c x .cluster) (lockOf c) ≡ stepOf c (lockIn x (lockOf c)) .state
+settled-here : (a : Answer) (x : Cluster) (l : LockId) (s : LockState) → l .0 < length (x .locks) → ((r : Refusal) → a ≡ Refused r → s ≡ lockIn x l)
+    → lockIn (settled a x l s .cluster) l ≡ s
 unfolding settled
-outcome-here c x h = go (stepOf c (lockIn x (lockOf c)) .answer) refl
-  where
-    go : (a : Answer) → stepOf c (lockIn x (lockOf c)) .answer ≡ a → lockIn (settled a x (lockOf c) (stepOf c (lockIn x (lockOf c)) .state) .cluster) (lockOf c) ≡ stepOf c (lockIn x (lockOf c)) .state
-    go Accepted e = getD-set-same (x .locks) (lockOf c .0) _ freshLock h
-    go (Refused r) e = sym (step-refused c (lockIn x (lockOf c)) r e)
+settled-here Accepted x l s h f = getD-set-same (x .locks) (l .0) s freshLock h
+settled-here (Refused r) x l s h f = sym (f r refl)
 
 pub perform-here : (c : Call) (x : Cluster) → wellFormed x ≡ true → lockOf c .0 < locks → perform c x ≡ outcomeOf c x
     → lockIn (perform c x .cluster) (lockOf c) ≡ stepOf c (lockIn x (lockOf c)) .state
-perform-here c x w h e = rw e (outcome-here c x (rw (all-locks x w) h))
+perform-here c x w h e = rw e (settled-here _ x (lockOf c) _ (rw (all-locks x w) h) (step-refused c (lockIn x (lockOf c))))

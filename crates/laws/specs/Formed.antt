@@ -39,12 +39,13 @@ decider-of : (t : Address) → toDecider t ≡ true → t ≡ ToDecider
 decider-of ToDecider e = refl
 decider-of (ToMachine k) e = absurd (false≢true e)
 
-pub shaped-canonical : {A : Type 0} (n : ℕ) (p : A → Bool) (z : A) → ((x : A) → p x ≡ true → x ≡ z) → (slots : List A) (len : ℕ) → shaped n p slots len ≡ true → Canonical n z slots len
+pub shaped-canonical : {A : Type 0} (n : ℕ) (p : A → Bool) (z : A) → ((x : A) → p x ≡ true → x ≡ z) → (slots : List A) (len : ℕ)
+    → shaped n p slots len ≡ true → Canonical n z slots len
 unfolding shaped padded
 shaped-canonical n p z f slots len e =
-    let a : length slots ≡ n = eqb-true (length slots) n (and-left (eqb (length slots) n) _ e) in
+    let a : length slots ≡ n = eqb-true (length slots) n (and-left _ _ e) in
     let e2 : (leb len n && all p (drop len slots)) ≡ true = and-right (eqb (length slots) n) _ e in
-    let b : len ≤ n = leb-true len n (and-left (leb len n) _ e2) in
+    let b : len ≤ n = leb-true len n (and-left _ _ e2) in
     let c : all p (drop len slots) ≡ true = and-right (leb len n) _ e2 in
     let l : length (take len slots) ≡ len = length-take-le len slots (omega arith) in
     let m : length (drop len slots) ≡ n - length (take len slots) = omega (arith, length-drop len slots) in
@@ -53,11 +54,11 @@ shaped-canonical n p z f slots len e =
 
 pub waiter-blank : (w : Waiter) → isBlankWaiter w ≡ true → w ≡ blankWaiter
 unfolding isBlankWaiter
-waiter-blank w e = rw (eqb-true (w .client .0) 0 (and-left (eqb (w .client .0) 0) _ e), exclusive-of (w .mode) (and-right (eqb (w .client .0) 0) _ e))
+waiter-blank w e = rw (eqb-true (w .client .0) 0 (and-left _ _ e), exclusive-of (w .mode) (and-right (eqb (w .client .0) 0) _ e))
 
 pub queue-canonical : (q : Queue) → queueFormed q ≡ true → CanonicalQueue q
 unfolding queueFormed
-queue-canonical q e = shaped-canonical queueCapacity isBlankWaiter blankWaiter waiter-blank (q .slots) (q .len) (and-left (shaped queueCapacity isBlankWaiter (q .slots) (q .len)) _ e)
+queue-canonical q e = shaped-canonical queueCapacity isBlankWaiter blankWaiter waiter-blank (q .slots) (q .len) (and-left _ _ e)
 
 pub agent-blank : (a : Agent) → isBlankAgent a ≡ true → a ≡ newAgent Exclusive
 unfolding isBlankAgent queueOf
@@ -66,11 +67,11 @@ agent-blank a e =
     let e2 = and-right (eqb (length (a .holders)) clients) _ e1 in
     let e3 = and-right (all not (a .holders)) _ e2 in
     let e4 = and-right (shaped queueCapacity isBlankWaiter (a .queue .slots) 0) _ e3 in
-    let m : a .mode ≡ Exclusive = exclusive-of (a .mode) (and-left (not (isShared (a .mode))) _ e) in
-    let n : length (a .holders) ≡ clients = eqb-true (length (a .holders)) clients (and-left (eqb (length (a .holders)) clients) _ e1) in
-    let h : a .holders ≡ noHolders = rw n at (all-same not false not-true (a .holders) (and-left (all not (a .holders)) _ e2)) in
-    let q : Canonical queueCapacity blankWaiter (a .queue .slots) 0 = shaped-canonical queueCapacity isBlankWaiter blankWaiter waiter-blank (a .queue .slots) 0 (and-left (shaped queueCapacity isBlankWaiter (a .queue .slots) 0) _ e3) in
-    let l : a .queue .len ≡ 0 = eqb-true (a .queue .len) 0 (and-left (eqb (a .queue .len) 0) _ e4) in
+    let m : a .mode ≡ Exclusive = exclusive-of (a .mode) (and-left _ _ e) in
+    let n : length (a .holders) ≡ clients = eqb-true (length (a .holders)) clients (and-left _ _ e1) in
+    let h : a .holders ≡ noHolders = rw n at (all-same not false not-true (a .holders) (and-left _ _ e2)) in
+    let q = shaped-canonical queueCapacity isBlankWaiter blankWaiter waiter-blank (a .queue .slots) 0 (and-left _ _ e3) in
+    let l : a .queue .len ≡ 0 = eqb-true (a .queue .len) 0 (and-left _ _ e4) in
     let i : a .incarnation ≡ 0 = eqb-true (a .incarnation) 0 (and-right (eqb (a .queue .len) 0) _ e4) in
     rw (m, h, q .shape, l, i)
 
@@ -80,16 +81,16 @@ packet-blank p e =
     let e1 = and-right (isFree (p .message)) _ e in
     let e2 = and-right (toDecider (p .to)) _ e1 in
     let e3 = and-right (not (p .rejected)) _ e2 in
-    let m : p .message ≡ Free = free-of (p .message) (and-left (isFree (p .message)) _ e) in
-    let t : p .to ≡ ToDecider = decider-of (p .to) (and-left (toDecider (p .to)) _ e1) in
-    let r : p .rejected ≡ false = not-true (p .rejected) (and-left (not (p .rejected)) _ e2) in
-    let c : p .carried .present ≡ false = not-true (p .carried .present) (and-left (not (p .carried .present)) _ e3) in
+    let m : p .message ≡ Free = free-of (p .message) (and-left _ _ e) in
+    let t : p .to ≡ ToDecider = decider-of (p .to) (and-left _ _ e1) in
+    let r : p .rejected ≡ false = not-true (p .rejected) (and-left _ _ e2) in
+    let c : p .carried .present ≡ false = not-true (p .carried .present) (and-left _ _ e3) in
     let a : p .carried .agent ≡ newAgent Exclusive = agent-blank (p .carried .agent) (and-right (not (p .carried .present)) _ e3) in
     rw (m, t, r, c, a)
 
 pub wire-canonical : (w : Wire) → wireFormed w ≡ true → CanonicalWire w
 unfolding wireFormed
-wire-canonical w e = shaped-canonical wireCapacity isBlankPacket blankPacket packet-blank (w .slots) (w .len) (and-left (shaped wireCapacity isBlankPacket (w .slots) (w .len)) _ e)
+wire-canonical w e = shaped-canonical wireCapacity isBlankPacket blankPacket packet-blank (w .slots) (w .len) (and-left _ _ e)
 
 -- ---- an agent of a well-formed slot, a blank one too
 pub record Fit (a : Agent) : Type 0 where
@@ -105,11 +106,7 @@ unfolding slotFormed agentFormed
 fit x e = go (x .present) e
   where
     go : (b : Bool) → slotBy b (x .agent) ≡ true → Fit (x .agent)
-    go true e =
-        record {
-          all-clients = eqb-true _ clients (and-left (eqb (length (x .agent .holders)) clients) _ e);
-          queue = and-right (eqb (length (x .agent .holders)) clients) _ e;
-        }
+    go true e = record { all-clients = eqb-true _ clients (and-left _ _ e); queue = and-right (eqb (length (x .agent .holders)) clients) _ e }
     go false e = rw (agent-blank (x .agent) e) (new-fit Exclusive)
 
 pub slot-canonical : (x : AgentSlot) → slotFormed x ≡ true → CanonicalQueue (x .agent .queue)
@@ -119,8 +116,7 @@ pub no-agent-formed : slotFormed noAgent ≡ true
 unfolding slotFormed noAgent isBlankAgent queueOf shaped padded isBlankWaiter
 no-agent-formed = refl
 
--- The packet p, where four of its parts are looked at: its message, its address, whether it is rejected, whether it carries an agent. With p's
--- own four it is p.
+-- The packet p with these four parts, so that a proof can match on each: with its own message, address, rejected and present it is p.
 abbrev pub slotIn : Bool → Packet → AgentSlot
 slotIn x p = record { present = x; agent = p .carried .agent }
 
@@ -136,9 +132,8 @@ pub record Whole (p : Packet) : Type 0 where
 pub whole-packet : (p : Packet) → packetFormed p ≡ true → Whole p
 unfolding packetFormed
 whole-packet p e =
-    let m = messageFormed (p .message) (p .carried .present) (p .rejected) (p .to) in
-    let e1 = and-right m _ e in
-    record { message = and-left m _ e; address = and-left (addressInRange (p .to)) _ e1; carried = and-right (addressInRange (p .to)) _ e1 }
+    let e1 = and-right (messageFormed (p .message) (p .carried .present) (p .rejected) (p .to)) _ e in
+    record { message = and-left _ _ e; address = and-left _ _ e1; carried = and-right (addressInRange (p .to)) _ e1 }
 
 -- ---- the parts of a well-formed lock
 pub record Parts (s : LockState) : Type 0 where
@@ -157,10 +152,10 @@ parts s e =
     let e3 = and-right (all slotFormed (s .agents)) _ e2 in
     let w : wireFormed (s .wire) ≡ true = and-right (eqb (length (s .clients)) clients) _ e3 in
     record {
-      owner = and-left (ownerInRange (s .decider .owner)) _ e;
-      all-machines = eqb-true (length (s .agents)) machines (and-left (eqb (length (s .agents)) machines) _ e1);
-      agents = and-left (all slotFormed (s .agents)) _ e2;
-      all-clients = eqb-true (length (s .clients)) clients (and-left (eqb (length (s .clients)) clients) _ e3);
+      owner = and-left _ _ e;
+      all-machines = eqb-true (length (s .agents)) machines (and-left _ _ e1);
+      agents = and-left _ _ e2;
+      all-clients = eqb-true (length (s .clients)) clients (and-left _ _ e3);
       wire = w;
       packets = and-right (shaped wireCapacity isBlankPacket (s .wire .slots) (s .wire .len)) _ w;
     }

@@ -9,20 +9,20 @@ use lib.Dec.{leb}
 use borrow.Author.Tests.{eq-eqb, lt-ltb, leb-true, leb-false}
 use Rattle.model.specs.Lists.{pick, any, all, removed}
 use Rattle.laws.specs.Names.{MachineId, ClientId, Mode, Shared, Owner, Unowned, Owned, Waiter, Agent, AgentSlot, Address, ToDecider, ToMachine, Message}
-use Rattle.laws.specs.Names.{Free, Acquire, Grant, Release, Packet, Idle, Waiting, Site, LockState, WireFull}
+use Rattle.laws.specs.Names.{Free, Acquire, Grant, Release, Packet, Idle, Waiting, Site, LockState, Stepped}
 use Rattle.model.specs.States.{resent, queueOf, waiters, packets, someAgent, newAgent, machineOf, isShared, machines, clients, queueCapacity, wireCapacity}
 use Rattle.model.specs.WellFormed.{clientInRange, ownerInRange, addressInRange, isClient, waiterInRange, slotFormed, messageFormed, packetFormed, lockFormed}
-use Rattle.model.specs.Changes.{siteOf, withSlot, withStatus, Verdict, cannot-place, does, apply, accepted, refused, finish}
+use Rattle.model.specs.Changes.{siteOf, withSlot, withStatus, Verdict, cannot-place, does, apply, finish}
 use Rattle.model.specs.Asking.{changed, queuing, noRoom, withRoom, mayJoin, clientAsks, clientAcquires, anyHolder, without, handOver, staysIf, leaves, lists}
 use Rattle.model.specs.Asking.{clientReleases}
 use Rattle.model.specs.AtDecider.{toOwner, grantsWith, mayShare, decidesAcquire, current, decidesFree, decidesGrant, decides, atDecider}
-use Rattle.model.specs.AtMachine.{sentBack, admitted, joined, grantOf, requeued, installs, grantArrives, rejectedGrantArrives, marked, unmarked, acquireArrives}
+use Rattle.model.specs.AtMachine.{sentBack, admitted, grantOf, requeued, installs, grantArrives, rejectedGrantArrives, marked, unmarked, acquireArrives}
 use Rattle.model.specs.AtMachine.{releaseArrives, freeArrives, arrives, atMachine}
 use Rattle.model.specs.Calls.{delivers, packetAt, acquireStep, releaseStep, takes, deliverStep}
-use Rattle.laws.specs.Tests.{and-left, and-right, both, or-left, or-right}
+use Rattle.laws.specs.Tests.{and-left, and-right, both, or-left, or-right, pick-by}
 use Rattle.laws.specs.Lists.{all-append, all-removed, all-set, left-out, whole, sublist-all}
 use Rattle.laws.specs.Formed.{Fit, fit, new-fit, no-agent-formed, Whole, Parts, parts, agent-on, packet-at, inParts}
-use Rattle.laws.specs.Making.{machine-in-range, Line, line, line-sublist, line-end, line-front, queue-formed, fit-holder, some-agent-formed}
+use Rattle.laws.specs.Making.{machine-in-range, Line, line, line-sublist, line-end, line-front, fit-line, fit-holder, some-agent-formed}
 use Rattle.laws.specs.Making.{packet-formed, plain-whole, carrying-whole, resent-whole, wire-formed}
 use Rattle.laws.specs.Parting.{parting, sublists, length-joined}
 
@@ -50,19 +50,17 @@ module _ (s : LockState) (k : MachineId) (c : ClientId) where
       rw (o, eq-eqb _ machines all-machines, all-set slotFormed (s .agents) (k .0) (v .slot) (f .agents) x, eq-eqb _ clients all-clients)
       (wire-formed (rest ++ qs) (all-append packetFormed rest qs g (sends-formed e)) (omega (arith, length-append rest qs)))
 
-  pub finish-formed : (w : Verdict) (rest : List Packet) → lockFormed s ≡ true → all packetFormed rest ≡ true → Sound w → lockFormed (finish k c w rest s .state) ≡ true
+  pub finish-formed : (w : Verdict) (rest : List Packet) → lockFormed s ≡ true → all packetFormed rest ≡ true → Sound w
+      → lockFormed (finish k c w rest s .state) ≡ true
   unfolding finish
   finish-formed cannot-place rest f g refuses = f
-  finish-formed (does v qs) rest f g q = go (leb (length rest + length qs) wireCapacity) refl
-    where
-      go : (b : Bool) → leb (length rest + length qs) wireCapacity ≡ b → lockFormed (pick b (accepted (apply k c v qs rest s)) (refused WireFull s) .state) ≡ true
-      go true e = apply-formed v qs rest (parts s f) g q (leb-true (length rest + length qs) wireCapacity e)
-      go false e = f
+  finish-formed (does v qs) rest f g q =
+      pick-by (λ (t : Stepped). lockFormed (t .state) ≡ true) (leb (length rest + length qs) wireCapacity)
+      (λ e. apply-formed v qs rest (parts s f) g q (leb-true _ wireCapacity e)) (λ e. f)
 
 -- a rule that chooses by a test
 choice : (b : Bool) {v w : Verdict} → (b ≡ true → Sound v) → (b ≡ false → Sound w) → Sound (pick b v w)
-choice true f g = f refl
-choice false f g = g refl
+choice = pick-by Sound
 
 grants-sent : (ws : List Waiter) → all waiterInRange ws ≡ true → Sends (map grantOf ws)
 unfolding messageFormed
@@ -73,9 +71,8 @@ grants-sent (w ∷ ws) e =
 
 hand-over : (a : Agent) (hs : List Bool) (ws : List Waiter) → length hs ≡ clients → Line ws → Whole (handOver a hs ws)
 unfolding handOver messageFormed
-hand-over a hs [] n l = carrying-whole refl refl (record { all-clients = n; queue = queue-formed l })
-hand-over a hs (w ∷ ws) n l =
-    carrying-whole (rw (and-left (waiterInRange w) _ (l .ranged))) refl (record { all-clients = n; queue = queue-formed (line-sublist (left-out (whole ws)) l) })
+hand-over a hs [] n l = carrying-whole refl refl (fit-line n l)
+hand-over a hs (w ∷ ws) n l = carrying-whole (rw (and-left (waiterInRange w) _ (l .ranged))) refl (fit-line n (line-sublist (left-out (whole ws)) l))
 
 -- the packet may go to any address
 abbrev Anywhere : Packet → Type 0
@@ -106,7 +103,7 @@ module _ (v : Site) (f : Set v) where
     sound-queue ws g =
         let old = any (isClient c) (waiters (a .queue)) in
         choice (noRoom a c) (λ e. refuses)
-        (λ e. keeps (f .owner) (some-agent-formed (record { all-clients = q .all-clients; queue = queue-formed (g (or-left old _ e) (leb-false queueCapacity _ (or-right old _ e))) })) none)
+        (λ e. keeps (f .owner) (some-agent-formed (fit-line (q .all-clients) (g (or-left old _ e) (leb-false queueCapacity _ (or-right old _ e))))) none)
 
     sound-queuing : Sound (withRoom a c (does (withSlot v (someAgent (queuing a c m))) []))
     sound-queuing = sound-queue _ (line-end (line (a .queue) (q .queue)) (record { client = c; mode = m }) h)
@@ -119,8 +116,10 @@ module _ (v : Site) (f : Set v) where
     sound-installs =
         let l = line (a .queue) (q .queue) in
         let ws = waiters (a .queue) in
-        let n : length (joined (set (a .holders) (c .0) true) (admitted m ws)) ≡ clients = length-joined (set (a .holders) (c .0) true) (admitted m ws) ∙ (length-set (a .holders) (c .0) true ∙ q .all-clients) in
-        keeps (f .owner) (some-agent-formed (record { all-clients = n; queue = queue-formed (line-sublist (sublists (parting m ws) .1) l) })) (grants-sent (admitted m ws) (sublist-all waiterInRange (sublists (parting m ws) .0) (l .ranged)))
+        let parted = sublists (parting m ws) in
+        let n = length-joined _ (admitted m ws) ∙ (length-set (a .holders) (c .0) true ∙ q .all-clients) in
+        keeps (f .owner) (some-agent-formed (fit-line n (line-sublist (parted .1) l)))
+        (grants-sent (admitted m ws) (sublist-all waiterInRange (parted .0) (l .ranged)))
 
   sound-leaves : (a : Agent) (c : ClientId) → Fit a → Sound (leaves v a c)
   unfolding staysIf
@@ -128,7 +127,7 @@ module _ (v : Site) (f : Set v) where
     where
       go : (b : Bool) → Sound (staysIf b v a (without a c))
       go true = keeps (f .owner) (some-agent-formed (fit-holder q (c .0) false (a .incarnation))) none
-      go false = keeps (f .owner) no-agent-formed (more (hand-over a (without a c) (waiters (a .queue)) (length-set (a .holders) (c .0) false ∙ q .all-clients) (line (a .queue) (q .queue))) none)
+      go false = keeps (f .owner) no-agent-formed (more (hand-over a _ _ (fit-holder q (c .0) false 0 .all-clients) (line (a .queue) (q .queue))) none)
 
   -- at the decider: sent on, or granted with an agent
   sound-to-owner : (o : Owner) (p : Packet) → Anywhere p → ownerInRange o ≡ true → Sound (toOwner o v p)
@@ -148,8 +147,8 @@ module _ (v : Site) (f : Set v) where
   sound-decides-acquire Unowned p c m false h w i = sound-grants c m (newAgent m) h (new-fit m)
   sound-decides-acquire (Owned n k) p c m false h w i =
       choice (mayShare v m)
-      (λ e. let g = both (clientInRange c) true h refl in keeps (f .owner) (f .slot)
-      (more (plain-whole (Grant c Shared) (ToMachine (machineOf c)) g (machine-in-range c h)) (more (plain-whole (Acquire c Shared true) (ToMachine k) g i) none)))
+      (λ e. let g = both (clientInRange c) true h refl in
+      keeps (f .owner) (f .slot) (more (plain-whole _ _ g (machine-in-range c h)) (more (plain-whole _ _ g i) none)))
       (λ e. sound-to-owner (Owned n k) p w i)
   sound-decides-acquire Unowned p c m true h w i = sound-to-owner Unowned p w i
   sound-decides-acquire (Owned n k) p c m true h w i = sound-to-owner (Owned n k) p w i
@@ -170,7 +169,8 @@ module _ (v : Site) (f : Set v) where
       → Sound (acquireArrives here v a p c m g)
   unfolding acquireArrives marked unmarked messageFormed
   sound-acquire-arrives false a p c m g q h w = sound-sends (more w none)
-  sound-acquire-arrives true a p c m true q h w = choice (isShared (a .mode)) (λ e. keeps (f .owner) (some-agent-formed (fit-holder q (c .0) true _)) none) (λ e. refuses)
+  sound-acquire-arrives true a p c m true q h w =
+      choice (isShared (a .mode)) (λ e. keeps (f .owner) (some-agent-formed (fit-holder q (c .0) true _)) none) (λ e. refuses)
   sound-acquire-arrives true a p c m false q h w =
       choice (mayJoin v m)
       (λ e. keeps (f .owner) (some-agent-formed (fit-holder q (c .0) true _)) (more (plain-whole (Grant c m) ToDecider (rw h) refl) none))
@@ -190,7 +190,8 @@ module _ (v : Site) (f : Set v) where
     abbrev came : Message → Bool → Packet
     came m b = inParts m (p .to) (p .rejected) b p
 
-    sound-decides-grant : (b : Bool) (c : ClientId) (m : Mode) (o : Owner) → Whole (came (Grant c m) b) → ownerInRange o ≡ true → Sound (decidesGrant b o v (came (Grant c m) b) c m)
+    sound-decides-grant : (b : Bool) (c : ClientId) (m : Mode) (o : Owner) → Whole (came (Grant c m) b) → ownerInRange o ≡ true
+        → Sound (decidesGrant b o v (came (Grant c m) b) c m)
     unfolding decidesGrant messageFormed
     sound-decides-grant false c m o w h = sound-sends (more (resent-whole w (w .message) (machine-in-range c (and-left (clientInRange c) _ (w .message)))) none)
     sound-decides-grant true c m Unowned w h = refuses
@@ -217,11 +218,11 @@ module _ (v : Site) (f : Set v) where
     sound-arrives : (m : Message) (b : Bool) → Whole (came m b) → Sound (arrives m v (came m b))
     unfolding arrives messageFormed
     sound-arrives (Acquire c m g) b w =
-        sound-acquire-arrives (v .slot .present) (v .slot .agent) _ c m g (fit _ (f .slot)) (and-left (clientInRange c) _ (w .message)) (resent-whole w (w .message) refl)
+        sound-acquire-arrives _ _ _ c m g (fit _ (f .slot)) (and-left (clientInRange c) _ (w .message)) (resent-whole w (w .message) refl)
     sound-arrives (Grant c m) b w =
         let q = fit _ (w .carried) in
         let h = and-left (clientInRange c) _ (w .message) in
-        choice (p .rejected) (λ e. sound-rejected-arrives (v .slot .present) (p .carried .agent) c m q h) (λ e. sound-grant-arrives (v .slot .present) b (p .carried .agent) c m q h)
+        choice (p .rejected) (λ e. sound-rejected-arrives _ _ c m q h) (λ e. sound-grant-arrives _ b _ c m q h)
     sound-arrives (Release c) b w = sound-release-arrives _ c (resent-whole w (w .message) refl)
     sound-arrives Free b w = sound-free-arrives (v .slot .present) _ (w .carried)
 

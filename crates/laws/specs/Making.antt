@@ -6,10 +6,10 @@ use Prim.Native.Nat.{ℕ, _-_, _<_, _≤_}
 use native.Mathlib.Omega.{arith}
 use lib.ListN.{length, take, replicate, length-append, length-replicate, length-set, set}
 use lib.Seq.{drop-append-seam}
-use lib.Dec.{eqb, leb}
+use lib.Dec.{eqb}
 use borrow.Author.Tests.{eqb-false, ltb-true, lt-ltb, le-leb, eq-eqb, ne-eqb, not-true}
 use Rattle.model.specs.Lists.{any, all, padded}
-use Rattle.laws.specs.Names.{ClientId, Address, Message, Waiter, Queue, Agent, Packet}
+use Rattle.laws.specs.Names.{ClientId, Mode, Address, Message, Waiter, Queue, Agent, Packet}
 use Rattle.model.specs.States.{plain, blankWaiter, blankPacket, queueOf, waiters, wireOf, someAgent, noAgent, machineOf, machines, clients, queueCapacity}
 use Rattle.model.specs.States.{wireCapacity, carrying, resent}
 use Rattle.model.specs.WellFormed.{clientInRange, machineInRange, addressInRange, shaped, isBlankWaiter, isClient, distinct, waiterInRange, queueFormed}
@@ -25,9 +25,9 @@ machine-in-range c h = lt-ltb (machineOf c .0) machines (omega (arith, ltb-true 
 pub shaped-padded : {A : Type 0} (n : ℕ) (p : A → Bool) (z : A) → p z ≡ true → (xs : List A) → length xs ≤ n → shaped n p (padded n z xs) (length xs) ≡ true
 unfolding shaped padded
 shaped-padded n p z e xs h =
-    let l : length (xs ++ replicate (n - length xs) z) ≡ n = omega (arith, length-append xs (replicate (n - length xs) z), length-replicate (n - length xs) z) in
-    both (eqb (length (xs ++ replicate (n - length xs) z)) n) _ (eq-eqb _ n l)
-    (both (leb (length xs) n) _ (le-leb _ n h) (rw (drop-append-seam xs (replicate (n - length xs) z)) (all-replicate p (n - length xs) z e)))
+    let pad = replicate (n - length xs) z in
+    let l : length (xs ++ pad) ≡ n = omega (arith, length-append xs pad, length-replicate (n - length xs) z) in
+    rw (eq-eqb _ n l, le-leb _ n h, drop-append-seam xs pad) (all-replicate p (n - length xs) z e)
 
 -- ---- no client twice
 first-new : (w : Waiter) (ws : List Waiter) → distinct (w ∷ ws) ≡ true → any (isClient (w .client)) ws ≡ false
@@ -46,7 +46,7 @@ distinct-end : (ws : List Waiter) (w : Waiter) → any (isClient (w .client)) ws
 unfolding distinct
 distinct-end [] w e d = refl
 distinct-end (v ∷ ws) w e d =
-    let v≢w : eqb (w .client .0) (v .client .0) ≡ false = ne-eqb _ _ (λ q. eqb-false (v .client .0) (w .client .0) (or-left (isClient (w .client) v) _ e) (sym q)) in
+    let v≢w : eqb (w .client .0) (v .client .0) ≡ false = ne-eqb _ _ (λ q. eqb-false (v .client .0) (w .client .0) (or-left _ _ e) (sym q)) in
     distinct-front v (ws ++ w ∷ []) (none-end (isClient (v .client)) ws w (first-new v ws d) v≢w)
     (distinct-end ws w (or-right (isClient (w .client) v) _ e) (rest-distinct v ws d))
 
@@ -76,15 +76,14 @@ line q e =
 pub queue-formed : {ws : List Waiter} → Line ws → queueFormed (queueOf ws) ≡ true
 unfolding queueFormed queueOf isBlankWaiter
 queue-formed {ws} l =
-    both (shaped queueCapacity isBlankWaiter (padded queueCapacity blankWaiter ws) (length ws)) _ (shaped-padded queueCapacity isBlankWaiter blankWaiter refl ws (l .short))
-    (rw (take-padded queueCapacity blankWaiter ws) (both (all waiterInRange ws) _ (l .ranged) (l .once)))
+    rw (shaped-padded queueCapacity isBlankWaiter blankWaiter refl ws (l .short), take-padded queueCapacity blankWaiter ws, l .ranged) (l .once)
 
 pub line-sublist : {vs ws : List Waiter} → Sublist vs ws → Line ws → Line vs
-line-sublist s l =
-    record { short = omega (arith, sublist-length s); ranged = sublist-all waiterInRange s (l .ranged); once = distinct-sublist s (l .once) }
+line-sublist s l = record { short = omega (arith, sublist-length s); ranged = sublist-all waiterInRange s (l .ranged); once = distinct-sublist s (l .once) }
 
 -- one more waiter, at the end or in front
-module _ {ws : List Waiter} (l : Line ws) (w : Waiter) (h : waiterInRange w ≡ true) (new : any (isClient (w .client)) ws ≡ false) (room : length ws < queueCapacity) where
+module _ {ws : List Waiter} (l : Line ws) (w : Waiter) (h : waiterInRange w ≡ true) (new : any (isClient (w .client)) ws ≡ false)
+    (room : length ws < queueCapacity) where
   pub line-end : Line (ws ++ w ∷ [])
   line-end =
       record {
@@ -100,6 +99,10 @@ module _ {ws : List Waiter} (l : Line ws) (w : Waiter) (h : waiterInRange w ≡ 
 pub some-agent-formed : {a : Agent} → Fit a → slotFormed (someAgent a) ≡ true
 unfolding slotFormed agentFormed
 some-agent-formed {a} f = both (eqb (length (a .holders)) clients) _ (eq-eqb _ clients (f .all-clients)) (f .queue)
+
+pub fit-line : {m : Mode} {hs : List Bool} {ws : List Waiter} {n : ℕ} → length hs ≡ clients → Line ws
+    → Fit (record { mode = m; holders = hs; queue = queueOf ws; incarnation = n })
+fit-line e l = record { all-clients = e; queue = queue-formed l }
 
 -- one holder more or less
 pub fit-holder : {a : Agent} → Fit a → (i : ℕ) (b : Bool) (n : ℕ) → Fit (changed a (set (a .holders) i b) (a .queue) n)
@@ -118,7 +121,8 @@ plain-whole m t e h = record { message = e; address = h; carried = no-agent-form
 pub carrying-whole : {m : Message} {t : Address} {a : Agent} → messageFormed m true false t ≡ true → addressInRange t ≡ true → Fit a → Whole (carrying m t a)
 carrying-whole e h q = record { message = e; address = h; carried = some-agent-formed q }
 
-pub resent-whole : {p : Packet} {t : Address} {b : Bool} → Whole p → messageFormed (p .message) (p .carried .present) b t ≡ true → addressInRange t ≡ true → Whole (resent p t b)
+pub resent-whole : {p : Packet} {t : Address} {b : Bool} → Whole p → messageFormed (p .message) (p .carried .present) b t ≡ true
+    → addressInRange t ≡ true → Whole (resent p t b)
 resent-whole w e h = record { message = e; address = h; carried = w .carried }
 
 blank-packet : isBlankPacket blankPacket ≡ true
@@ -127,6 +131,4 @@ blank-packet = refl
 
 pub wire-formed : (ps : List Packet) → all packetFormed ps ≡ true → length ps ≤ wireCapacity → wireFormed (wireOf ps) ≡ true
 unfolding wireFormed wireOf
-wire-formed ps e h =
-    both (shaped wireCapacity isBlankPacket (padded wireCapacity blankPacket ps) (length ps)) _ (shaped-padded wireCapacity isBlankPacket blankPacket blank-packet ps h)
-    (rw (take-padded wireCapacity blankPacket ps) e)
+wire-formed ps e h = rw (shaped-padded wireCapacity isBlankPacket blankPacket blank-packet ps h, take-padded wireCapacity blankPacket ps) e

@@ -1,32 +1,26 @@
 -- The drain's next call passes its tests: on a well-formed cluster it is its step.
 use mathlib.Core.Path.{_≡_, refl}
-use mathlib.Core.Bool.{Bool, true, false}
+use mathlib.Core.Bool.{true, false}
 use mathlib.Core.List.{List, [], _∷_}
 use Prim.Native.Nat.{ℕ, zero, suc, _+_, _*_, _/_, _%_, _<_}
 use native.Mathlib.Omega.{arith}
 use lib.ListN.{length, getD}
 use borrow.Author.Tests.{lt-leb}
-use Rattle.model.specs.Lists.{pick}
-use Rattle.laws.specs.Names.{LockId, MachineId, TaskId, Mode, Packet, Status, Idle, Waiting, Holding, ClientState, LockState, Cluster, Call, ReleaseCall}
-use Rattle.laws.specs.Names.{DeliverCall}
+use Rattle.laws.specs.Names.{LockId, MachineId, TaskId, Mode, Packet, Holding, ClientState, LockState, Cluster, Call, ReleaseCall, DeliverCall}
 use Rattle.model.specs.States.{clientOf, statusOf, idle, packets, lockIn, locks, machines, tasks, clients}
 use Rattle.model.specs.WellFormed.{wellFormed}
 use Rattle.model.specs.Refusals.{first}
 use Rattle.model.specs.Calls.{isHolding, unless, release, deliver, perform}
 use Rattle.model.specs.Drain.{none, some, releaseFirst, nextOf, nextCall}
+use Rattle.laws.specs.Tests.{bool-cases, pick-by}
 use Rattle.laws.specs.Formed.{parts, lock-formed}
-use Rattle.laws.specs.CallSteps.{lockOf, outcomeOf, Allowed, may-release, may-deliver}
+use Rattle.laws.specs.CallSteps.{lockOf, outcomeOf, Allowed, may-release, may-deliver, holds}
 
 -- what the drain does next to a lock's state
 pub data NextIs (l : LockId) (s : LockState) : Call → Type 0 where
   delivers-first : 0 < length (packets (s .wire)) → NextIs l s (DeliverCall l 0)
   releases-holder : (k : MachineId) (t : TaskId) (m : Mode) → clientOf k t .0 < length (s .clients) → t .0 < tasks → packets (s .wire) ≡ []
       → statusOf s (clientOf k t) ≡ Holding m → NextIs l s (ReleaseCall l k t)
-
-holds : (st : Status) → isHolding st ≡ true → (m : Mode) × (st ≡ Holding m)
-holds Idle e = absurd (let z : _≡_ {A = ℕ} 0 1 = cc in omega arith)
-holds (Waiting m) e = absurd (let z : _≡_ {A = ℕ} 0 1 = cc in omega arith)
-holds (Holding m) e = (m, refl)
 
 -- the client found, counted from n
 pub record Found (n : ℕ) (cs : List ClientState) (l : LockId) (a : Call) : Type 0 where
@@ -39,20 +33,15 @@ pub record Found (n : ℕ) (cs : List ClientState) (l : LockId) (a : Call) : Typ
 found : (l : LockId) (n : ℕ) (cs : List ClientState) (a : Call) → releaseFirst l n cs ≡ some a → Found n cs l a
 unfolding releaseFirst
 found l n [] a e = absurd (let z : _≡_ {A = ℕ} 0 1 = cc in omega arith)
-found l n (c ∷ cs) a e = go (isHolding (c .status)) refl e (found l (suc n) cs a)
-  where
-    later : Found (suc n) cs l a → Found n (c ∷ cs) l a
-    later f =
-        let q : suc n + f .at ≡ n + suc (f .at) = omega arith in
-        record { at = suc (f .at); inside = omega (arith, f .inside); mode = f .mode; holding = f .holding; call = rw q at (f .call) }
-
-    go : (b : Bool) → isHolding (c .status) ≡ b → pick b (some (ReleaseCall l (record { 0 = n / tasks }) (record { 0 = n % tasks }))) (releaseFirst l (suc n) cs) ≡ some a
-        → (releaseFirst l (suc n) cs ≡ some a → Found (suc n) cs l a) → Found n (c ∷ cs) l a
-    go true q r ih =
-        let h = holds (c .status) q in
-        let z : n + 0 ≡ n = omega arith in
-        record { at = 0; inside = omega arith; mode = h .0; holding = h .1; call = rw z (cc) }
-    go false q r ih = later (ih r)
+found l n (c ∷ cs) a e =
+    bool-cases (isHolding (c .status))
+    (λ q. let h = holds (c .status) q in
+    let r = rw (releaseFirst, q) at e in
+    let z : n + 0 ≡ n = omega arith in
+    record { at = 0; inside = omega arith; mode = h .0; holding = h .1; call = rw z (cc) })
+    (λ q. let f = found l (suc n) cs a (rw (releaseFirst, q) at e) in
+    let z : suc n + f .at ≡ n + suc (f .at) = omega arith in
+    record { at = suc (f .at); inside = omega (arith, f .inside); mode = f .mode; holding = f .holding; call = rw z at (f .call) })
 
 pub next-is : (l : LockId) (s : LockState) (a : Call) → nextCall l s ≡ some a → NextIs l s a
 unfolding nextOf
@@ -63,7 +52,8 @@ next-is l s a e = go (packets (s .wire)) refl e
         let f = found l 0 (s .clients) a r in
         let z : 0 + f .at ≡ f .at = omega arith in
         let w : tasks * (f .at / tasks) + f .at % tasks ≡ f .at = omega arith in
-        rw (f .call, z) (releases-holder (record { 0 = f .at / tasks }) (record { 0 = f .at % tasks }) (f .mode) (rw w (f .inside)) (omega arith) q (rw w (f .holding)))
+        rw (f .call, z)
+        (releases-holder (record { 0 = f .at / tasks }) (record { 0 = f .at % tasks }) (f .mode) (rw w (f .inside)) (omega arith) q (rw w (f .holding)))
     go (p ∷ ps) q r = let z : a ≡ DeliverCall l 0 = cc in rw z (delivers-first (rw q (omega arith)))
 
 -- nobody holds and the wire is empty
@@ -74,13 +64,9 @@ pub record Rests (s : LockState) : Type 0 where
 nobody-holds : (l : LockId) (n : ℕ) (cs : List ClientState) → releaseFirst l n cs ≡ none → (c : ℕ) → isHolding (getD cs c idle .status) ≡ false
 unfolding releaseFirst
 nobody-holds l n [] e c = refl
-nobody-holds l n (x ∷ cs) e c = go (isHolding (x .status)) refl e c (nobody-holds l (suc n) cs)
-  where
-    go : (b : Bool) → isHolding (x .status) ≡ b → pick b (some (ReleaseCall l (record { 0 = n / tasks }) (record { 0 = n % tasks }))) (releaseFirst l (suc n) cs) ≡ none → (c : ℕ)
-        → (releaseFirst l (suc n) cs ≡ none → (c : ℕ) → isHolding (getD cs c idle .status) ≡ false) → isHolding (getD (x ∷ cs) c idle .status) ≡ false
-    go true q r c ih = absurd (let z : _≡_ {A = ℕ} 0 1 = cc in omega arith)
-    go false q r zero ih = q
-    go false q r (suc c) ih = ih r c
+nobody-holds l n (x ∷ cs) e zero = pick-by (λ o. o ≡ none → isHolding (x .status) ≡ false) (isHolding (x .status)) (λ q r. cc) (λ q r. q) e
+nobody-holds l n (x ∷ cs) e (suc c) =
+    pick-by (λ o. o ≡ none → isHolding (getD cs c idle .status) ≡ false) (isHolding (x .status)) (λ q r. cc) (λ q r. nobody-holds l (suc n) cs r c) e
 
 pub rests : (l : LockId) (s : LockState) → nextCall l s ≡ none → Rests s
 unfolding nextOf

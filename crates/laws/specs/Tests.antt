@@ -30,6 +30,10 @@ pub bool-cases : (b : Bool) {P : Type 0} → (b ≡ true → P) → (b ≡ false
 bool-cases true f g = f refl
 bool-cases false f g = g refl
 
+pub pick-by : {A : Type 0} (P : A → Type 0) (b : Bool) {x y : A} → (b ≡ true → P x) → (b ≡ false → P y) → P (pick b x y)
+pick-by P true f g = f refl
+pick-by P false f g = g refl
+
 pub pick-yes : {A : Type 0} {b : Bool} {x : A} (y : A) → b ≡ true → pick b x y ≡ x
 pick-yes y e = rw e
 

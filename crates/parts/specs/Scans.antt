@@ -1,5 +1,5 @@
 -- Loops over the used part of an array, `take n xs`: what is left of it from j on, and a test over that.
-use mathlib.Core.Path.{_≡_}
+use mathlib.Core.Path.{_≡_, sym, _∙_}
 use mathlib.Core.Bool.{Bool, true, false, _&&_, and-assoc, and-true}
 use mathlib.Core.List.{List, [], _∷_}
 use Prim.Native.Nat.{ℕ, _+_, _<_, _≤_}
@@ -45,18 +45,28 @@ module _ {A : Type 0} where
     pub used-none : n ≤ j → any p (drop j (take n xs)) ≡ false
     used-none h = rw (used-end xs n j d k h)
 
-  -- a loop over all of xs that joins a test of each: what was joined so far, with the test of all that are left, is the test of all
-  module _ (p : A → Bool) (xs : List A) (ok : Bool) (j : ℕ) (d : A) where
-    pub join-next : j < length xs → ((ok && p (getD xs j d)) && all p (drop (j + 1) xs)) ≡ (ok && all p (drop j xs))
-    join-next h = rw (add-one, drop-cons xs j d) (and-assoc ok _ _)
+  -- a loop that joins a test of each of xs: what it has, with the tests of all that are left, is what it began with
+  pub record Joins (p : A → Bool) (xs : List A) (ok₀ : Bool) (j₀ : ℕ) (ok : Bool) (j : ℕ) : Type 0 where
+    pub same : (ok && all p (drop j xs)) ≡ (ok₀ && all p (drop j₀ xs))
 
-    pub join-end : length xs ≤ j → (ok && all p (drop j xs)) ≡ ok
-    join-end h = rw drop-of-length-le (and-true ok)
+  module _ {p : A → Bool} {xs : List A} {ok₀ ok : Bool} {j₀ j : ℕ} (i : Joins p xs ok₀ j₀ ok j) where
+    pub joins-next : (d : A) → j < length xs → Joins p xs ok₀ j₀ (ok && p (getD xs j d)) (j + 1)
+    joins-next d h =
+        let e : ((ok && p (getD xs j d)) && all p (drop (j + 1) xs)) ≡ (ok && all p (drop j xs)) = rw (add-one, drop-cons xs j d) (and-assoc ok _ _) in
+        record { same = e ∙ i .same }
 
-  -- and over the used part
-  module _ (xs : List A) (n j : ℕ) (d : A) (k : n ≤ length xs) (p : A → Bool) (ok : Bool) where
-    pub first-next : j < n → ((ok && p (getD xs j d)) && all p (drop (j + 1) (take n xs))) ≡ (ok && all p (drop j (take n xs)))
-    first-next h = rw (used-more xs n j d k h) (and-assoc ok _ _)
+    pub joins-all : length xs ≤ j → ok ≡ (ok₀ && all p (drop j₀ xs))
+    joins-all h =
+        let e : (ok && all p (drop j xs)) ≡ ok = rw drop-of-length-le (and-true ok) in
+        sym e ∙ i .same
 
-    pub first-end : n ≤ j → (ok && all p (drop j (take n xs))) ≡ ok
-    first-end h = rw (used-end xs n j d k h) (and-true ok)
+  -- and of the first n of an array
+  module _ (xs : List A) (n : ℕ) (k : n ≤ length xs) {p : A → Bool} {ok₀ ok : Bool} {j₀ j : ℕ} (i : Joins p (take n xs) ok₀ j₀ ok j) where
+    pub first-next : (d : A) → j < n → Joins p (take n xs) ok₀ j₀ (ok && p (getD xs j d)) (j + 1)
+    first-next d h =
+        let e : ((ok && p (getD xs j d)) && all p (drop (j + 1) (take n xs))) ≡ (ok && all p (drop j (take n xs))) =
+        rw (used-more xs n j d k h) (and-assoc ok _ _) in
+        record { same = e ∙ i .same }
+
+    pub first-all : n ≤ j → ok ≡ (ok₀ && all p (drop j₀ (take n xs)))
+    first-all h = joins-all i (omega (arith, length-take-le n xs k))

@@ -1,12 +1,11 @@
 -- Every step at the decider can be placed and keeps the invariant.
 use Rattle.theorems.specs.Names.{MachineId, ClientId, Mode, Exclusive, Shared, Owner, Unowned, Owned, Agent, Address, ToDecider, ToMachine, Message, Free}
 use Rattle.theorems.specs.Names.{Acquire, Grant, Release, Packet, Status, Idle, Waiting, Holding, LockState, _≡_, refl, sym, Bool, true, false, _&&_, not}
-use Rattle.theorems.specs.Names.{List, [], _∷_, ℕ, _+_, _≤_, _<_, _%_, arith, length, List·getD-eq-default, set-getD, ltb, eqb-true, eqb-false, eq-eqb}
-use Rattle.theorems.specs.Names.{ltb-true, ltb-false, all, machineOf, noHolders, unowned, waiters, noAgent, packets, Site, siteOf, withDecider, changed}
-use Rattle.theorems.specs.Names.{lists, grantsFirst, shares, current, rejects, passesOn, toOwner, decidesAcquire, decidesFree, decidesGrant, decides}
-use Rattle.theorems.specs.Names.{and-left, and-right, both, bool-cases, waiters-of, Decider, _∙_, false≢true, machines, clients, ownedShared, mayShare}
-use Rattle.theorems.specs.Names.{slotIn, inParts, plain}
-use Rattle.theorems.specs.Tally.{flag, tally, tally-at, tally-le, tally-none, tally-add, sumTo, sum-swap, sum-le, sum-one}
+use Rattle.theorems.specs.Names.{List, [], _∷_, ℕ, _+_, _≤_, _<_, _%_, arith, set-getD, ltb, eqb-true, eqb-false, eq-eqb, ltb-true, all, machineOf}
+use Rattle.theorems.specs.Names.{noHolders, unowned, waiters, noAgent, packets, Site, siteOf, withDecider, changed, lists, grantsFirst, shares, current}
+use Rattle.theorems.specs.Names.{rejects, passesOn, toOwner, decidesAcquire, decidesFree, decidesGrant, decides, and-left, and-right, both, bool-cases}
+use Rattle.theorems.specs.Names.{waiters-of, Decider, _∙_, false≢true, machines, clients, ownedShared, mayShare, slotIn, inParts, plain}
+use Rattle.theorems.specs.Tally.{flag, tally, tally-any, tally-le, tally-none, tally-add, sumTo, sum-swap, sum-le, sum-one}
 use Rattle.theorems.specs.Weights.{statusAt, slotAt, weight, one, askM, queuedS, waitingP, markM, listedS, listedP, owedM, owedP, releaseM, releaseP}
 use Rattle.theorems.specs.Weights.{agentS, agentP, incarnationS, incarnationP, markAll, markP, rejectedP, vacantS, holdF, ownedF, clash, farM, farP, farF}
 use Rattle.theorems.specs.Weights.{ownedMode, misfitS, fitsAway, fitsFree, inRange, fits, fitsP, misfitP}
@@ -139,11 +138,7 @@ module _ (r : LockState) (p : Packet) (rest : List Packet) (i : Inv r) (sp : Spl
 
   any-slot : (o : Owner) (k : ℕ) → misfitS o k (slotAt r k) ≡ 0
   unfolding misfitS noAgent
-  any-slot o k = rw (absent-of (slotAt r k) (slot-none (ltb k machines) refl))
-    where
-      slot-none : (b : Bool) → ltb k machines ≡ b → agentS (slotAt r k) ≡ 0
-      slot-none true q = omega (arith, no-agent-on-any, tally-at agentS noAgent (r .agents) k (omega (arith, i .all-machines, ltb-true k machines q)))
-      slot-none false q = let l : length (r .agents) ≤ k = omega (arith, i .all-machines, ltb-false k machines q) in rw (List·getD-eq-default (r .agents) noAgent l) (unfold agentS in refl)
+  any-slot o k = rw (absent-of (slotAt r k) (omega (arith, no-agent-on-any, tally-any agentS noAgent (unfold agentS in refl) (r .agents) k)))
 
   none-rejected : tally rejectedP rest + tally vacantS (r .agents) ≡ 0
   unfolding weight tally
@@ -208,7 +203,8 @@ module _ (r : LockState) (rest : List Packet) (i : Inv r) (j : MachineId) (u : C
   a = p .carried .agent
 
   -- ---- an ACQUIRE at a free lock
-  pub keep-first : (c : ClientId) (m : Mode) (x : Bool) → r .decider .owner ≡ Unowned → Split r (came (Acquire c m false) x ∷ []) rest → Good r j u rest (grantsFirst site c m)
+  pub keep-first : (c : ClientId) (m : Mode) (x : Bool) → r .decider .owner ≡ Unowned → Split r (came (Acquire c m false) x ∷ []) rest
+      → Good r j u rest (grantsFirst site c m)
   unfolding tally askM markM owedM releaseM markAll queuedS listedS agentS incarnationS misfitP fits ownedF fitsAway
   keep-first c m x o sp =
       let pl : Plain c (slotIn x p) = plain-request i acquire-of sp in
@@ -247,7 +243,7 @@ module _ (r : LockState) (rest : List Packet) (i : Inv r) (j : MachineId) (u : C
         fitting = rw (o, pl .named);
         slot = i .homes (j .0);
         reach = omega (arith, near-home c (pl .below), near-owner r Shared k i o);
-        vacancy = vacancy-by (slotAt r (j .0)) (plain (Grant c Shared) (ToMachine (machineOf c)) ∷ plain (Acquire c Shared true) (ToMachine k) ∷ []) i sp jj refl (omega arith);
+        vacancy = vacancy-by _ (plain (Grant c Shared) (ToMachine (machineOf c)) ∷ plain (Acquire c Shared true) (ToMachine k) ∷ []) i sp jj refl (omega arith);
       })
 
   -- ---- a FREE, a GRANT with agent
@@ -266,7 +262,7 @@ module _ (r : LockState) (rest : List Packet) (i : Inv r) (j : MachineId) (u : C
   came-grant c m sp =
       let f : (ltb (c .0) clients && (not (p .rejected) && (ownedMode (r .decider .owner) (a .mode) && fitsAway a))) ≡ true = fit _ (came-fits r rest _ i sp) in
       let g : (ownedMode (r .decider .owner) (a .mode) && fitsAway a) ≡ true = and-right (not (p .rejected)) _ (and-right (ltb (c .0) clients) _ f) in
-      record { named = and-left (ltb (c .0) clients) _ f; mode = and-left (ownedMode (r .decider .owner) (a .mode)) _ g; away = and-right (ownedMode (r .decider .owner) (a .mode)) _ g }
+      record { named = and-left _ _ f; mode = and-left _ _ g; away = and-right (ownedMode (r .decider .owner) (a .mode)) _ g }
 
   keep-freed : ownedF (r .decider .owner) ≡ 1 → a .incarnation ≡ r .decider .incarnation → Split r (came Free true ∷ []) rest
       → Keeps r j u rest (withDecider site unowned) []
@@ -310,8 +306,9 @@ module _ (r : LockState) (rest : List Packet) (i : Inv r) (j : MachineId) (u : C
       })
 
   -- the incarnations differ: some mark is on the wire
-  keep-rejected : (m : Message) (o : Mode) (k : MachineId) → r .decider .owner ≡ Owned o k → a .incarnation < 256 → (a .incarnation ≡ r .decider .incarnation → ⊥)
-      → fits (Owned o k) true (ToMachine k) true a m ≡ true → Split r (came m true ∷ []) rest → Good r j u rest (rejects site (came m true) k)
+  keep-rejected : (m : Message) (o : Mode) (k : MachineId) → r .decider .owner ≡ Owned o k → a .incarnation < 256
+      → (a .incarnation ≡ r .decider .incarnation → ⊥) → fits (Owned o k) true (ToMachine k) true a m ≡ true
+      → Split r (came m true ∷ []) rest → Good r j u rest (rejects site (came m true) k)
   unfolding misfitP agentS incarnationS
   keep-rejected m o k eo s n f sp =
       keep-resent i (still refl) jj (came m true) _ refl refl sp (rw (eo, f))
@@ -336,7 +333,7 @@ module _ (r : LockState) (rest : List Packet) (i : Inv r) (j : MachineId) (u : C
 
   near-grant : (c : ClientId) (m : Mode) → Split r (came (Grant c m) false ∷ []) rest → farM (machineOf c) ≡ 0
   unfolding misfitP
-  near-grant c m sp = near-home c (ltb-true (c .0) clients (named-of (r .decider .owner) false ToDecider (p .rejected) a (Grant c m) (fit _ (came-fits r rest _ i sp))))
+  near-grant c m sp = near-home c (ltb-true (c .0) clients (named-of _ _ _ _ _ (Grant c m) (fit _ (came-fits r rest _ i sp))))
 
   -- sent on to the owner
   good-on : {c : ClientId} {m : Message} {v : Site} → Still r j u v → (o : Mode) (k : MachineId) (x : Bool) → Request c m → r .decider .owner ≡ Owned o k
@@ -348,7 +345,7 @@ module _ (r : LockState) (rest : List Packet) (i : Inv r) (j : MachineId) (u : C
   unfolding decides decidesAcquire decidesFree decidesGrant
   good-decides (Acquire c m false) Unowned x e sp = keep-first c m x e sp
   good-decides (Acquire c m true) Unowned x e sp = impossible i sp (rw e (no-marked x ToDecider _ a c m Unowned refl))
-  good-decides (Acquire c m false) (Owned o k) x e sp = good-by r j u rest (mayShare site m) (shares site c k) (toOwner (Owned o k) site (came (Acquire c m false) x)) yes (λ q. good-on (still refl) o k x acquire-of e sp)
+  good-decides (Acquire c m false) (Owned o k) x e sp = good-by r j u rest (mayShare site m) _ _ yes (λ q. good-on (still refl) o k x acquire-of e sp)
     where
       yes : mayShare site m ≡ true → Good r j u rest (shares site c k)
       yes q =
@@ -360,8 +357,10 @@ module _ (r : LockState) (rest : List Packet) (i : Inv r) (j : MachineId) (u : C
   good-decides Free o false e sp = impossible i sp (no-free _ ToDecider _ a)
   good-decides Free Unowned true e sp = impossible i sp (rw e (no-freed _ a))
   good-decides Free (Owned o k) true e sp =
-      good-by r j u rest (current (r .decider) (came Free true)) _ _ (λ q. keep-freed (owned-is o k e) (eqb-true _ _ q) sp) (λ q. keep-free-rejected o k e (eqb-false _ _ q) sp)
+      good-by r j u rest (current (r .decider) (came Free true)) _ _
+      (λ q. keep-freed (owned-is o k e) (eqb-true _ _ q) sp) (λ q. keep-free-rejected o k e (eqb-false _ _ q) sp)
   good-decides (Grant c m) o false e sp = keep-on i (still refl) jj _ _ refl refl refl (λ w. plain-any _ _ _ a w (Grant c m)) (near-grant c m sp) sp
   good-decides (Grant c m) Unowned true e sp = impossible i sp (rw e (no-offer _ a c m))
   good-decides (Grant c m) (Owned o k) true e sp =
-      good-by r j u rest (current (r .decider) (came (Grant c m) true)) _ _ (λ q. keep-passed-on c m (owned-is o k e) (eqb-true _ _ q) sp) (λ q. keep-grant-rejected c m o k e (eqb-false _ _ q) sp)
+      good-by r j u rest (current (r .decider) (came (Grant c m) true)) _ _
+      (λ q. keep-passed-on c m (owned-is o k e) (eqb-true _ _ q) sp) (λ q. keep-grant-rejected c m o k e (eqb-false _ _ q) sp)

@@ -1,14 +1,13 @@
--- Well-formedness is not vacuous: the fresh cluster is well formed (`fresh-formed`, laws/specs/Clusters.antt), and for each bound of
--- document 01 a state that differs from a well-formed one in that alone is refused.
+-- For each bound of document 01, two states that differ in it alone: one well formed, one not. (`fresh-formed` in laws: the fresh cluster is.)
 use mathlib.Core.Path.{_≡_, refl}
 use mathlib.Core.Bool.{Bool, true, false}
 use mathlib.Core.List.{List, [], _∷_}
 use Prim.Native.Nat.{ℕ}
 use lib.ListN.{set, replicate}
 use Rattle.model.specs.Lists.{any, all, padded}
-use Rattle.theorems.specs.Names.{MachineId, ClientId, Exclusive, Shared, Unowned, Owned, Waiter, Queue, AgentSlot, Address, ToDecider, ToMachine, Message}
-use Rattle.theorems.specs.Names.{Free, Acquire, Grant, Release, Packet, Wire, LockState, machines, clients, plain, carrying, inParts, Owner, _+_, locks}
-use Rattle.theorems.specs.Names.{tasks, queueCapacity, wireCapacity}
+use Rattle.theorems.specs.Names.{MachineId, ClientId, Exclusive, Shared, Unowned, Owned, Waiter, AgentSlot, Address, ToDecider, ToMachine, Message}
+use Rattle.theorems.specs.Names.{Free, Acquire, Grant, Release, Packet, Wire, LockState, machines, clients, plain, carrying, inParts, changed, Owner, _+_}
+use Rattle.theorems.specs.Names.{locks, tasks, queueCapacity, wireCapacity}
 use Rattle.model.specs.States.{queueOf, newAgent, someAgent, noAgent, idle, blankWaiter, blankPacket, wireOf, noHolders}
 use Rattle.model.specs.Drain.{allowance}
 use Rattle.theorems.specs.Statements.{provedBound}
@@ -16,7 +15,8 @@ use Rattle.model.specs.WellFormed.{shaped, isBlankWaiter, distinct, queueFormed
 use Rattle.model.specs.WellFormed.{isBlankPacket, wireFormed, lockFormed}
 
 -- Document 01's numbers, and the one that README gives. Everything else goes by their names.
-pub sizes-are : (locks ≡ 8) × (machines ≡ 4) × (tasks ≡ 4) × (clients ≡ 16) × (queueCapacity ≡ 16) × (wireCapacity ≡ 33) × (allowance ≡ 16384) × (provedBound ≡ 11384)
+pub sizes-are : (locks ≡ 8) × (machines ≡ 4) × (tasks ≡ 4) × (clients ≡ 16) × (queueCapacity ≡ 16)
+    × (wireCapacity ≡ 33) × (allowance ≡ 16384) × (provedBound ≡ 11384)
 sizes-are = (refl, refl, refl, refl, refl, refl, refl, refl)
 
 -- a well-formed state, and one that differs from it in one bound
@@ -44,17 +44,19 @@ ownedBy k = state (Owned Shared (machine k)) nowhere (wireOf [])
 abbrev slot0 : AgentSlot → LockState
 slot0 x = state (Owned Shared (machine 0)) (set nowhere 0 x) (wireOf [])
 
-abbrev queued : Queue → LockState
-queued q = slot0 (someAgent (record { mode = Exclusive; holders = noHolders; queue = q; incarnation = 0 }))
+-- an agent there, whose queue has these in front and this length
+abbrev queued : List Waiter → ℕ → LockState
+queued ws n = slot0 (someAgent (changed (newAgent Exclusive) noHolders (record { slots = padded queueCapacity blankWaiter ws; len = n }) 0))
 
 abbrev waits : ℕ → Waiter
 waits c = record { client = client c; mode = Shared }
 
-abbrev onWire : Wire → LockState
-onWire w = state Unowned nowhere w
+-- a wire, likewise
+abbrev onWire : List Packet → ℕ → LockState
+onWire ps n = state Unowned nowhere (record { slots = padded wireCapacity blankPacket ps; len = n })
 
 abbrev sent : Packet → LockState
-sent p = onWire (wireOf (p ∷ []))
+sent p = onWire (p ∷ []) 1
 
 abbrev carried : AgentSlot
 carried = someAgent (newAgent Shared)
@@ -87,31 +89,32 @@ bounds =
     ∷ bound (framed (acquire 15) ToDecider false noAgent) (framed (acquire 16) ToDecider false noAgent)
     ∷ bound (framed (grant 15) ToDecider false noAgent) (framed (grant 16) ToDecider false noAgent)
     ∷ bound (framed (Release (client 15)) ToDecider false noAgent) (framed (Release (client 16)) ToDecider false noAgent)
-    ∷ bound (queued (queueOf (waits 15 ∷ []))) (queued (queueOf (waits 16 ∷ [])))
-    -- a queue of at most 16 waiters, no client twice
-    ∷ bound (queued (record { slots = replicate queueCapacity blankWaiter; len = 0 })) (queued (record { slots = replicate queueCapacity blankWaiter; len = queueCapacity + 1 }))
-    ∷ bound (queued (queueOf (waits 1 ∷ waits 2 ∷ []))) (queued (queueOf (waits 1 ∷ waits 1 ∷ [])))
-    -- the wire: at most 33 packets
-    ∷ bound (onWire (record { slots = replicate wireCapacity blankPacket; len = 0 })) (onWire (record { slots = replicate wireCapacity blankPacket; len = wireCapacity + 1 }))
-    -- FREE always carries an agent, GRANT sometimes, the others never
+    ∷ bound (queued (waits 15 ∷ []) 1) (queued (waits 16 ∷ []) 1)
+    -- the length of a queue, and its clients
+    ∷ bound (queued [] 0) (queued [] (queueCapacity + 1))
+    ∷ bound (queued (waits 1 ∷ waits 2 ∷ []) 2) (queued (waits 1 ∷ waits 1 ∷ []) 2)
+    -- the length of the wire
+    ∷ bound (onWire [] 0) (onWire [] (wireCapacity + 1))
+    -- which messages carry an agent
     ∷ bound (framed Free ToDecider false carried) (framed Free ToDecider false noAgent)
     ∷ bound (framed (acquire 0) ToDecider false noAgent) (framed (acquire 0) ToDecider false carried)
     ∷ bound (framed (Release (client 0)) ToDecider false noAgent) (framed (Release (client 0)) ToDecider false carried)
-    -- a FREE, or a GRANT with agent, may be rejected, and is then addressed to a machine
+    -- what can be rejected, and where it goes
     ∷ bound (framed Free away true carried) (framed Free ToDecider true carried)
     ∷ bound (framed (grant 0) away true carried) (framed (grant 0) ToDecider true carried)
     ∷ bound (framed (grant 0) away true carried) (framed (grant 0) away true noAgent)
     ∷ bound (framed (acquire 0) away false noAgent) (framed (acquire 0) away true noAgent)
     ∷ bound (framed (Release (client 0)) away false noAgent) (framed (Release (client 0)) away true noAgent)
-    -- an unmarked FREE is addressed to the decider
+    -- where any other FREE goes
     ∷ bound (framed Free ToDecider false carried) (framed Free away false carried)
-    -- what is unused is blank: a queue's slot, a wire's, the agent of a machine and of a packet that have none
-    ∷ bound (queued (queueOf [])) (queued (record { slots = padded queueCapacity blankWaiter (waits 0 ∷ []); len = 0 }))
-    ∷ bound (onWire (wireOf [])) (onWire (record { slots = padded wireCapacity blankPacket (plain (acquire 0) ToDecider ∷ []); len = 0 }))
+    -- blanks: past a queue's end, past the wire's, in a slot that has no agent and in a packet that carries none
+    ∷ bound (queued [] 0) (queued (waits 0 ∷ []) 0)
+    ∷ bound (onWire [] 0) (onWire (plain (acquire 0) ToDecider ∷ []) 0)
     ∷ bound (slot0 noAgent) (slot0 dirty)
     ∷ bound (framed (acquire 0) ToDecider false noAgent) (framed (acquire 0) ToDecider false dirty)
     ∷ []
 
 pub bounds-tested : (all (λ (b : Bound). lockFormed (b .within)) bounds ≡ true) × (any (λ (b : Bound). lockFormed (b .outside)) bounds ≡ false)
-unfolding bounds lockFormed wireFormed packetFormed messageFormed slotFormed agentFormed isBlankAgent isBlankPacket isBlankWaiter queueFormed distinct shaped padded queueOf noAgent blankPacket wireOf
+unfolding bounds lockFormed wireFormed packetFormed messageFormed slotFormed agentFormed isBlankAgent isBlankPacket isBlankWaiter
+    queueFormed distinct shaped padded queueOf noAgent blankPacket wireOf
 bounds-tested = (refl, refl)

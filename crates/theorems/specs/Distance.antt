@@ -60,7 +60,8 @@ module _ {A : Type 0} (h : A → ℕ) where
   least-last (x ∷ xs) y = omega (arith, least-last xs y)
 
   -- the first goes to the end, and there has fewer hops, or had none that are known: the least distance falls
-  pub least-falls : (x y : A) (xs : List A) → h y ≤ 3 → (h x ≤ 2 → h y < h x) → length xs < wireCapacity → least (x ∷ xs) < rounds → least (xs ++ y ∷ []) < least (x ∷ xs)
+  pub least-falls : (x y : A) (xs : List A) → h y ≤ 3 → (h x ≤ 2 → h y < h x) → length xs < wireCapacity → least (x ∷ xs) < rounds
+      → least (xs ++ y ∷ []) < least (x ∷ xs)
   unfolding least
   least-falls x y xs b g n l =
       bool-cases (leb (h x) 2)
@@ -89,13 +90,17 @@ route-two : (o : Owner) (t : Address) → route o t ≤ 2
 route-two o ToDecider = omega arith
 route-two o (ToMachine k) = bool-cases (ownedAt o (k .0)) (λ q. rw q (omega arith)) (λ q. rw q (omega arith))
 
+grant-near : (o : Owner) (x : AgentSlot) (y : Bool) (t : Address) (c : ClientId) (n : Mode) → hopsM o x y t (Grant c n) ≤ 2
+unfolding hopsM
+grant-near o x true t c n = omega arith
+grant-near o x false ToDecider c n = omega arith
+grant-near o x false (ToMachine k) c n = omega arith
+
 pub hops-three : (o : Owner) (x : AgentSlot) (y : Bool) (t : Address) (m : Message) → hopsM o x y t m ≤ 3
 unfolding hopsM
 hops-three o x y t (Acquire c n g) = bool-cases (served o x) (λ q. rw q (omega (arith, route-two o t))) (λ q. rw q (omega arith))
 hops-three o x y t (Release c) = bool-cases (lists x c) (λ q. rw q (omega (arith, route-two o t))) (λ q. rw q (omega arith))
-hops-three o x true t (Grant c n) = omega arith
-hops-three o x false ToDecider (Grant c n) = omega arith
-hops-three o x false (ToMachine k) (Grant c n) = omega arith
+hops-three o x y t (Grant c n) = omega (arith, grant-near o x y t c n)
 hops-three o x y t Free = omega arith
 
 -- ---- some packet on the wire is near
@@ -104,12 +109,6 @@ near-one n h = rw (le-leb n 2 h)
 
 acquire-near : (o : Owner) (x : AgentSlot) (t : Address) → served o x ≡ true → pick (served o x) (route o t) 3 ≤ 2
 acquire-near o x t e = rw e (route-two o t)
-
-grant-near : (o : Owner) (x : AgentSlot) (y : Bool) (t : Address) (c : ClientId) (n : Mode) → hopsM o x y t (Grant c n) ≤ 2
-unfolding hopsM
-grant-near o x true t c n = omega arith
-grant-near o x false ToDecider c n = omega arith
-grant-near o x false (ToMachine k) c n = omega arith
 
 -- any packet is, but for a RELEASE of a client that is not listed
 nearly : {G : Type 0} (o : Owner) (x : AgentSlot) (y : Bool) (t : Address) (m : Message) → served o x ≡ true
@@ -128,7 +127,8 @@ mark-near o x y t d (Grant c n) e = omega arith
 mark-near o x y t d (Release c) e = omega arith
 mark-near o x y t d Free e = omega arith
 
-carried-near : (o : Owner) (x : AgentSlot) (y : Bool) (t : Address) (b : Bool) (a : Agent) (m : Message) → flag y ≤ flag (not (fits o y t b a m)) + flag (leb (hopsM o x y t m) 2)
+carried-near : (o : Owner) (x : AgentSlot) (y : Bool) (t : Address) (b : Bool) (a : Agent) (m : Message)
+    → flag y ≤ flag (not (fits o y t b a m)) + flag (leb (hopsM o x y t m) 2)
 unfolding fits hopsM
 carried-near o x false t b a m = omega arith
 carried-near o x true t b a (Acquire c n g) = simp and-false (omega arith)
@@ -140,24 +140,24 @@ pub some-agent-is : (x : AgentSlot) → x .present ≡ true → x ≡ someAgent 
 some-agent-is x e = ap (λ (b : Bool). record { present = b; agent = x .agent }) e
 
 -- what counts only agents is counted on the one machine that has one
-only-here : (r : LockState) (i : Inv r) (k : ℕ) (kk : k < machines) (a : Agent) → slotAt r k ≡ someAgent a → (g : AgentSlot → ℕ) → ((x : AgentSlot) → agentS x ≡ 0 → g x ≡ 0)
-    → tally g (r .agents) ≡ g (someAgent a)
+only-here : (r : LockState) (i : Inv r) (k : ℕ) (kk : k < machines) (a : Agent) → slotAt r k ≡ someAgent a → (g : AgentSlot → ℕ)
+    → ((x : AgentSlot) → agentS x ≡ 0 → g x ≡ 0) → tally g (r .agents) ≡ g (someAgent a)
 unfolding weight agentS noAgent
 only-here r i k kk a es g z =
     let room : k < length (r .agents) = omega (arith, i .all-machines) in
     let th : tally agentS (r .agents) ≡ 1 = omega (arith, i .agent, owned-one (r .decider .owner), rw es at (tally-at agentS noAgent (r .agents) k room)) in
-    let rs : tally g (set (r .agents) k noAgent) ≡ 0 = tally-none agentS g z (set (r .agents) k noAgent) (omega (arith, rw es at (tally-set agentS noAgent (r .agents) k noAgent room))) in
+    let rs = tally-none agentS g z (set (r .agents) k noAgent) (omega (arith, rw es at (tally-set agentS noAgent (r .agents) k noAgent room))) in
     omega (arith, rs, z noAgent refl, rw es at (tally-set g noAgent (r .agents) k noAgent room))
 
 module _ (r : LockState) (i : Inv r) where
-  abbrev hopsP : Owner → Packet → ℕ
-  hopsP o = hops o (r .agents)
+  abbrev nearP : Owner → Packet → ℕ
+  nearP o = near (hops o (r .agents))
 
   abbrev ps : List Packet
   ps = packets (r .wire)
 
   -- the agent is under way
-  away-near : (m : Mode) (k : MachineId) → r .decider .owner ≡ Owned m k → slotAt r (k .0) .present ≡ false → 1 ≤ tally (near (hopsP (Owned m k))) ps
+  away-near : (m : Mode) (k : MachineId) → r .decider .owner ≡ Owned m k → slotAt r (k .0) .present ≡ false → 1 ≤ tally (nearP (Owned m k)) ps
   unfolding weight agentS misfitP misfitS ownedF
   away-near m k e ab =
       let none : tally agentS (r .agents) ≡ 0 =
@@ -167,8 +167,8 @@ module _ (r : LockState) (i : Inv r) where
         none,
         rw e at (i .agent),
         rw e at (i .fitting),
-        tally-le agentP (λ p. misfitP (Owned m k) p + near (hopsP (Owned m k)) p) (λ p. carried-near (Owned m k) (slotAt r (k .0)) (p .carried .present) (p .to) (p .rejected) (p .carried .agent) (p .message)) ps,
-        tally-add (misfitP (Owned m k)) (near (hopsP (Owned m k))) ps,
+        tally-le agentP (λ p. misfitP (Owned m k) p + nearP (Owned m k) p) (λ p. carried-near (Owned m k) _ (p .carried .present) _ _ _ (p .message)) ps,
+        tally-add (misfitP (Owned m k)) (nearP (Owned m k)) ps,
       )
     where
       go : (j : ℕ) (b : Bool) → slotAt r j .present ≡ b → agentS (slotAt r j) ≤ 0
@@ -198,7 +198,7 @@ module _ (r : LockState) (i : Inv r) where
       )
 
   home-near : (m : Mode) (k : MachineId) → r .decider .owner ≡ Owned m k → slotAt r (k .0) .present ≡ true → (p : Packet) (qs : List Packet) → ps ≡ p ∷ qs
-      → 1 ≤ tally (near (hopsP (Owned m k))) ps
+      → 1 ≤ tally (nearP (Owned m k)) ps
   home-near m k e here p qs eq =
       nearly (Owned m k) (slotAt r (k .0)) (p .carried .present) (p .to) (p .message) here
       (λ n. rw eq (unfold tally in omega (arith, near-one _ n)))
@@ -206,20 +206,20 @@ module _ (r : LockState) (i : Inv r) where
       omega (
         arith,
         mark-there m k e here c u (rw (eq, q) (unfold tally in owed c)),
-        tally-le (λ x. markM (c .0) (x .message)) (near (hopsP (Owned m k))) (λ x. mark-near (Owned m k) (slotAt r (k .0)) (x .carried .present) (x .to) (c .0) (x .message) here) ps,
+        tally-le (λ x. markM (c .0) (x .message)) (nearP (Owned m k)) (λ x. mark-near (Owned m k) _ _ _ (c .0) (x .message) here) ps,
       ))
     where
       owed : (c : ClientId) → 1 ≤ owedM (c .0) (p .carried .present) (Release c) + tally (owedP (c .0)) qs
       owed c = unfold owedM in omega (arith, one-self c)
 
   -- the lock is free
-  free-near : r .decider .owner ≡ Unowned → (p : Packet) (qs : List Packet) → ps ≡ p ∷ qs → 1 ≤ tally (near (hopsP Unowned)) ps
+  free-near : r .decider .owner ≡ Unowned → (p : Packet) (qs : List Packet) → ps ≡ p ∷ qs → 1 ≤ tally (nearP Unowned) ps
   unfolding misfitP tally
   free-near e p qs eq =
       nearly Unowned noAgent (p .carried .present) (p .to) (p .message) refl (λ n. rw eq (omega (arith, near-one _ n)))
       (λ c q u. absurd (omega (arith, rw (e, eq, q, no-release (p .carried .present) (p .to) (p .rejected) (p .carried .agent) c) at (i .fitting))))
 
-  some-near : (o : Owner) → r .decider .owner ≡ o → (p : Packet) (qs : List Packet) → ps ≡ p ∷ qs → 1 ≤ tally (near (hopsP o)) ps
+  some-near : (o : Owner) → r .decider .owner ≡ o → (p : Packet) (qs : List Packet) → ps ≡ p ∷ qs → 1 ≤ tally (nearP o) ps
   some-near Unowned e p qs eq = free-near e p qs eq
   some-near (Owned m k) e p qs eq = bool-cases (slotAt r (k .0) .present) (λ q. home-near m k e q p qs eq) (λ q. away-near m k e q)
 

@@ -43,8 +43,8 @@ count-waiting v n e = rw e (go n)
     go Shared = omega arith
 
 -- a GRANT that is delivered finds its client waiting
-grant-finds : (s : LockState) (i : Inv s) (rest : List Packet) (c : ClientId) (p : Packet) (t : Address) (m : Message) (b : Bool) → Split s (inParts m t b (p .carried .present) p ∷ []) rest
-    → (toMachine t && (isGrantFor c m && not b)) ≡ true → (n : Mode) × (statusOf s c ≡ Waiting n)
+grant-finds : (s : LockState) (i : Inv s) (rest : List Packet) (c : ClientId) (p : Packet) (t : Address) (m : Message) (b : Bool)
+    → Split s (inParts m t b (p .carried .present) p ∷ []) rest → (toMachine t && (isGrantFor c m && not b)) ≡ true → (n : Mode) × (statusOf s c ≡ Waiting n)
 grant-finds s i rest c p ToDecider m b sp e = absurd (false≢true e)
 grant-finds s i rest c p (ToMachine k) (Acquire d n g) b sp e = absurd (false≢true e)
 grant-finds s i rest c p (ToMachine k) (Release d) b sp e = absurd (false≢true e)
@@ -66,7 +66,8 @@ deliver-counted x l j i b c v e = rw (eq-eqb (l .0) (l .0) refl) (go (showsGrant
         grant-finds (lockIn x l) i (removed (packets (lockIn x l .wire)) j) c p (p .to) (p .message) (p .rejected) (split-at (lockIn x l) j p b refl) q in
         count-waiting v (w .0) (e ∙ w .1)
 
-release-counted : (x : Cluster) (l : LockId) (k : MachineId) (t : TaskId) (m : Mode) → statusOf (lockIn x l) (clientOf k t) ≡ Holding m → Counted l (ReleaseCall l k t) x
+release-counted : (x : Cluster) (l : LockId) (k : MachineId) (t : TaskId) (m : Mode) → statusOf (lockIn x l) (clientOf k t) ≡ Holding m
+    → Counted l (ReleaseCall l k t) x
 unfolding Counted sees waitingF waitF
 release-counted x l k t m ho c v e = rw (eq-eqb (l .0) (l .0) refl) (go (eqb (c .0) (clientOf k t .0)) refl)
   where
@@ -137,16 +138,17 @@ drainage-steps : (n : ℕ) (l : LockId) (x : Cluster) (a : Call) → nextCall l 
 unfolding drainage
 drainage-steps n l x a e q = rw (e, q, drainage)
 
-idle-waits : (x : Cluster) (l : LockId) (c : ClientId) → lockIn x l ≡ freshLock → waitingF (statusOf (lockIn x l) c) ≡ 0
+idle-waits : (x : Cluster) (l : LockId) → lockIn x l ≡ freshLock → (c : ClientId) (v : View) → v .phase ≡ statusOf (lockIn x l) c
+    → v .grants ≡ v .grants + waitingF (statusOf (lockIn x l) c)
 unfolding waitingF waitF
-idle-waits x l c f = ap (λ (s : LockState). waitingF (statusOf s c)) f ∙ rw (all-idle (c .0))
+idle-waits x l f c v p = rw (f, all-idle (c .0)) (omega arith)
 
 -- nothing is left to do
 ends-now : (m n : ℕ) (x : Cluster) (l : LockId) → nextCall l (lockIn x l) ≡ none → lockIn x l ≡ freshLock → Ends x l m (drainage n l x)
 unfolding watch run
 ends-now m n x l e f =
     rw (drainage-stops n l x e)
-    (record { answer = refl; few = omega arith; runs = refl; state = f; accepted = refl; quiescent = e; others = λ j z. refl; counted = λ c v p. omega (arith, idle-waits x l c f) })
+    (record { answer = refl; few = omega arith; runs = refl; state = f; accepted = refl; quiescent = e; others = λ j z. refl; counted = idle-waits x l f })
 
 -- one step, and the drain of what it leaves
 module _ (x : Cluster) (l : LockId) (h : Reached x) (a : Call) (q : lockOf a ≡ l) (t : perform a x .answer ≡ Accepted) (cn : Counted l a x) where
@@ -162,9 +164,9 @@ module _ (x : Cluster) (l : LockId) (h : Reached x) (a : Call) (q : lockOf a ≡
       let e : pick (isAccepted (perform a x .answer)) v′ v ≡ v′ = rw t in
       ap (λ (w : View). watch l c (d .calls) y w .grants) e ∙ omega (arith, ih .counted c v′ p′, cn c v p, ap waitingF p, ap waitingF p′)
 
-  ends-after : (m : ℕ) (d : Drainage) → Ends y l m d → Ends x l (suc m) (after-one a d)
+  ends-after : (m n : ℕ) (d : Drainage) → m < n → Ends y l m d → Ends x l n (after-one a d)
   unfolding run
-  ends-after m d ih =
+  ends-after m n d b ih =
       record {
         answer = ih .answer;
         few = omega (arith, ih .few);
@@ -176,9 +178,6 @@ module _ (x : Cluster) (l : LockId) (h : Reached x) (a : Call) (q : lockOf a ≡
         counted = count-on m d ih;
       }
 
-ends-more : {x : Cluster} {l : LockId} {m n : ℕ} {d : Drainage} → m ≤ n → Ends x l m d → Ends x l n d
-ends-more b e = record { answer = e .answer; few = omega (arith, b, e .few); runs = e .runs; state = e .state; accepted = e .accepted; quiescent = e .quiescent; others = e .others; counted = e .counted }
-
 -- by induction on the steps allowed: the rank bounds those that are taken
 ends : (n : ℕ) (x : Cluster) (l : LockId) → l .0 < locks → Reached x → rank (lockIn x l) ≤ n → Ends x l (rank (lockIn x l)) (drainage n l x)
 ends zero x l lb h b = go (onward x l lb h)
@@ -186,12 +185,12 @@ ends zero x l lb h b = go (onward x l lb h)
     go : Onward x l → Ends x l (rank (lockIn x l)) (drainage 0 l x)
     go (stops e f) = ends-now _ 0 x l e f
     go (steps a e q t cn r) = absurd (omega arith)
-ends (suc n) x l lb h b = go (onward x l lb h) (ends n)
+ends (suc n) x l lb h b = go (onward x l lb h) (λ y i. ends n y l lb i)
   where
-    go : Onward x l → ((y : Cluster) (l : LockId) → l .0 < locks → Reached y → rank (lockIn y l) ≤ n → Ends y l (rank (lockIn y l)) (drainage n l y)) → Ends x l (rank (lockIn x l)) (drainage (suc n) l x)
+    go : Onward x l → ((y : Cluster) → Reached y → rank (lockIn y l) ≤ n → Ends y l (rank (lockIn y l)) (drainage n l y))
+        → Ends x l (rank (lockIn x l)) (drainage (suc n) l x)
     go (stops e f) ih = ends-now _ (suc n) x l e f
-    go (steps a e q t cn r) ih =
-        rw (drainage-steps n l x a e t) (ends-more r (ends-after x l h a q t cn _ _ (ih (perform a x .cluster) l lb (reached-next a x h) (omega arith))))
+    go (steps a e q t cn r) ih = rw (drainage-steps n l x a e t) (ends-after x l h a q t cn _ _ _ r (ih _ (reached-next a x h) (omega arith)))
 
 -- ---- the call itself
 drain-is : (x : Cluster) (l : LockId) → wellFormed x ≡ true → l .0 < locks → drainage allowance l x .answer ≡ Accepted
@@ -204,11 +203,13 @@ unfolding waitingF waitF
 waiting-one Exclusive = refl
 waiting-one Shared = refl
 
-pub drains-reached : (x : Cluster) (l : LockId) → l .0 < locks → Reached x → Drains x l (λ c. statusOf (lockIn x l) c)
-drains-reached x l lb h =
+-- the phases are the statuses, however given
+drains-by : (x : Cluster) (l : LockId) → l .0 < locks → Reached x → (phase : ClientId → Status) → ((c : ClientId) → statusOf (lockIn x l) c ≡ phase c)
+    → Drains x l phase
+drains-by x l lb h phase same =
     let few : rank (lockIn x l) ≤ provedBound = rank-bound (lockIn x l) (h .invs l) in
     let e : Ends x l (rank (lockIn x l)) (drainage allowance l x) = ends allowance x l lb h (omega arith) in
-    let d : drain x l ≡ record { answer = Accepted; count = length (drainCalls l x); cluster = drainage allowance l x .cluster } = drain-is x l (h .formed) lb (e .answer) in
+    let d = drain-is x l (h .formed) lb (e .answer) in
     record {
       answered = rw d;
       counted = rw d;
@@ -219,30 +220,13 @@ drains-reached x l lb h =
       quiescent = rw d (e .quiescent);
       fresh = rw d (e .state);
       others = λ j n. rw d (e .others j n);
-      granted = λ c m q. omega (arith, e .counted c (record { phase = statusOf (lockIn x l) c; grants = 0 }) refl, ap waitingF q, waiting-one m);
+      granted = λ c m q. omega (arith, e .counted c (record { phase = phase c; grants = 0 }) (sym (same c)), ap waitingF (same c ∙ q), waiting-one m);
     }
 
--- the same phases, given otherwise
-same-phases : (x : Cluster) (l : LockId) (f g : ClientId → Status) → ((c : ClientId) → f c ≡ g c) → Drains x l f → Drains x l g
-same-phases x l f g e d =
-    record {
-      answered = d .answered;
-      counted = d .counted;
-      runs = d .runs;
-      accepted = d .accepted;
-      allowed = d .allowed;
-      bounded = d .bounded;
-      quiescent = d .quiescent;
-      fresh = d .fresh;
-      others = d .others;
-      granted = λ c m q. rw (← e c) (d .granted c m (e c ∙ q));
-    }
+pub drains-reached : (x : Cluster) (l : LockId) → l .0 < locks → Reached x → Drains x l (λ c. statusOf (lockIn x l) c)
+drains-reached x l lb h = drains-by x l lb h _ (λ c. refl)
 
 -- ---- demand 3, for every list of calls
 pub demand3 : (cs : List Call) → Demand3 cs
 demand3 cs =
-    record {
-      trace = trace-agrees cs;
-      exclusion = exclusion-of-trace cs;
-      drains = λ l lb. same-phases (after cs) l _ _ (trace-agrees cs l) (drains-reached (after cs) l lb (reached cs));
-    }
+    record { trace = trace-agrees cs; exclusion = exclusion-of-trace cs; drains = λ l lb. drains-by (after cs) l lb (reached cs) _ (trace-agrees cs l) }

@@ -2,25 +2,19 @@
 use Rattle.theorems.specs.Names.{MachineId, Mode, Exclusive, Shared, Owner, Unowned, Owned, Agent, Address, ToDecider, ToMachine, Message, Free, Acquire}
 use Rattle.theorems.specs.Names.{Grant, Release, Packet, Holding, LockState, _≡_, refl, ap, Bool, true, false, not, List, [], _∷_, ℕ, zero, suc, _+_, _≤_}
 use Rattle.theorems.specs.Names.{arith, getD, eqb, ltb, leb-true, noAgent, packets, and-left, and-right, clients, machineOf}
-use Rattle.theorems.specs.Tally.{flag, gate, tally, tally-le-at, tally-none, tally-add}
+use Rattle.theorems.specs.Tally.{flag, gate, tally, tally-any, tally-le-at, tally-none, tally-add}
 use Rattle.theorems.specs.Weights.{statusAt, slotAt, weight, sameMode, markM, listedS, listedP, agentS, heads, holdF, clash, ownedMode, ownedAt, few}
 use Rattle.theorems.specs.Weights.{misfitS, fitsAway, fitsFree, fits, misfitP}
 use Rattle.theorems.specs.Invariant.{Inv}
 use Rattle.theorems.specs.Facts.{fit, nobody, away-of, Home, home-of, owned-one}
 use Rattle.theorems.specs.Sent.{no-marked}
 
-flag-at : (hs : List Bool) (k : ℕ) → flag (getD hs k false) ≤ tally flag hs
-unfolding tally
-flag-at [] k = omega arith
-flag-at (x ∷ xs) zero = omega arith
-flag-at (x ∷ xs) (suc k) = omega (arith, flag-at xs k)
-
 two-flags : (hs : List Bool) (d e : ℕ) → (d ≡ e → ⊥) → flag (getD hs d false) + flag (getD hs e false) ≤ tally flag hs
 unfolding tally
 two-flags [] d e n = omega arith
 two-flags (x ∷ xs) zero zero n = absurd (n refl)
-two-flags (x ∷ xs) zero (suc e) n = omega (arith, flag-at xs e)
-two-flags (x ∷ xs) (suc d) zero n = omega (arith, flag-at xs d)
+two-flags (x ∷ xs) zero (suc e) n = omega (arith, tally-any flag false refl xs e)
+two-flags (x ∷ xs) (suc d) zero n = omega (arith, tally-any flag false refl xs d)
 two-flags (x ∷ xs) (suc d) (suc e) n = omega (arith, two-flags xs d e (λ q. n (ap suc q)))
 
 -- a carried agent that fits lists nobody
@@ -35,12 +29,14 @@ carried-away o (ToMachine k) true a (Grant c n) e = and-right (ownedMode o (a .m
 carried-away o (ToMachine k) false a (Grant c n) e =
     and-right (ownedMode o n) _ (and-right (eqb (machineOf c .0) (k .0)) _ (and-right (ownedAt o (k .0)) _ (and-right (ltb (c .0) clients) _ e)))
 
-lists-carried : (o : Owner) (d : ℕ) (x : Bool) (t : Address) (b : Bool) (a : Agent) (m : Message) → fits o x t b a m ≡ true → gate x (flag (getD (a .holders) d false)) ≡ 0
+lists-carried : (o : Owner) (d : ℕ) (x : Bool) (t : Address) (b : Bool) (a : Agent) (m : Message) → fits o x t b a m ≡ true
+    → gate x (flag (getD (a .holders) d false)) ≡ 0
 lists-carried o d true t b a m e = nobody (a .holders) d (away-of a (carried-away o t b a m e) .empty)
 lists-carried o d false t b a m e = refl
 
 -- beside an exclusive lock nothing is marked
-marks-exclusive : (k : MachineId) (d : ℕ) (x : Bool) (t : Address) (b : Bool) (a : Agent) (m : Message) → fits (Owned Exclusive k) x t b a m ≡ true → markM d m ≡ 0
+marks-exclusive : (k : MachineId) (d : ℕ) (x : Bool) (t : Address) (b : Bool) (a : Agent) (m : Message) → fits (Owned Exclusive k) x t b a m ≡ true
+    → markM d m ≡ 0
 marks-exclusive k d x t b a (Acquire c n true) e =
     let q : fits (Owned Exclusive k) x t b a (Acquire c n true) ≡ false = no-marked x t b a c n (Owned Exclusive k) refl in cc
 marks-exclusive k d x t b a (Acquire c n false) e = unfold markM in refl
@@ -48,12 +44,12 @@ marks-exclusive k d x t b a (Grant c n) e = unfold markM in refl
 marks-exclusive k d x t b a (Release c) e = unfold markM in refl
 marks-exclusive k d x t b a Free e = unfold markM in refl
 
-lists-none : (k : MachineId) (d : ℕ) (p : Packet) → misfitP (Owned Exclusive k) p ≡ 0 → listedP d p ≡ 0
+lists-none : (k : MachineId) (d : ℕ) (ps : List Packet) → tally (misfitP (Owned Exclusive k)) ps ≡ 0 → tally (listedP d) ps ≡ 0
 unfolding misfitP listedS
-lists-none k d p e =
-    let f : fits (Owned Exclusive k) (p .carried .present) (p .to) (p .rejected) (p .carried .agent) (p .message) ≡ true = fit _ e in
-    omega
-    (arith, marks-exclusive k d _ _ _ _ (p .message) f, lists-carried (Owned Exclusive k) d (p .carried .present) (p .to) (p .rejected) (p .carried .agent) (p .message) f)
+lists-none k d =
+    tally-none (misfitP (Owned Exclusive k)) (listedP d)
+    (λ p e. let carried = lists-carried (Owned Exclusive k) d (p .carried .present) _ _ (p .carried .agent) _ (fit _ e) in
+    omega (arith, marks-exclusive k d _ _ _ _ (p .message) (fit _ e), carried))
 
 -- an agent of an exclusive lock, on a machine, lists at most one
 slot-lists : (k : MachineId) (j d e : ℕ) (x : Bool) (a : Agent) → (d ≡ e → ⊥) → misfitS (Owned Exclusive k) j (record { present = x; agent = a }) ≡ 0
@@ -78,9 +74,8 @@ pub one-exclusive : (r : LockState) (i : Inv r) (d e : ℕ) (m : Mode) → (d �
 unfolding weight holdF
 one-exclusive r i d e m n hd he =
     let (k, o) = owner-exclusive (r .decider .owner) (rw hd at (i .modes d)) in
-    let none : (x : ℕ) → tally (listedP x) (packets (r .wire)) ≡ 0 = λ x. tally-none (misfitP (Owned Exclusive k)) (listedP x) (lists-none k x) (packets (r .wire)) (rw o at (i .fitting)) in
-    let few : tally (λ s. listedS d s + listedS e s) (r .agents) ≤ tally agentS (r .agents) =
-    tally-le-at (λ s. listedS d s + listedS e s) agentS noAgent (r .agents)
-    (λ j l. slot-lists k j d e (slotAt r j .present) (slotAt r j .agent) n (rw o at (i .homes j))) in
-    omega
-    (arith, none d, none e, few, tally-add (listedS d) (listedS e) (r .agents), rw hd at (i .holds d), rw he at (i .holds e), i .agent, owned-one (r .decider .owner))
+    let none : (x : ℕ) → tally (listedP x) (packets (r .wire)) ≡ 0 = λ x. lists-none k x (packets (r .wire)) (rw o at (i .fitting)) in
+    let few : tally (listedS d) (r .agents) + tally (listedS e) (r .agents) ≤ tally agentS (r .agents) =
+    rw (← tally-add (listedS d) (listedS e) (r .agents)) (tally-le-at (λ s. listedS d s + listedS e s) agentS noAgent (r .agents)
+    (λ j l. slot-lists k j d e (slotAt r j .present) (slotAt r j .agent) n (rw o at (i .homes j)))) in
+    omega (arith, none d, none e, few, rw hd at (i .holds d), rw he at (i .holds e), i .agent, owned-one (r .decider .owner))

@@ -56,7 +56,8 @@ pub record Step (r : LockState) (k : MachineId) (c : ClientId) (old : AgentSlot)
   pub reach : farF (v .decider .owner) + tally farP qs ≡ 0
   pub vacancy : tally rejectedP rest + tally rejectedP qs + tally vacantS (set (r .agents) (k .0) (v .slot)) ≤ tally markP rest + tally markP qs
 
-module _ {r : LockState} {k : MachineId} {c : ClientId} {old : AgentSlot} {v : Site} {gone qs rest : List Packet} (i : Inv r) (l : Step r k c old v gone qs rest) where
+module _ {r : LockState} {k : MachineId} {c : ClientId} {old : AgentSlot} {v : Site} {gone qs rest : List Packet}
+    (i : Inv r) (l : Step r k c old v gone qs rest) where
   -- the number x of `incs`: the carried incarnations and marks that stay
   others : ℕ
   others = tally incarnationP rest + tally markP rest + (tally incarnationS (r .agents) - incarnationS old)
@@ -74,7 +75,8 @@ module _ {r : LockState} {k : MachineId} {c : ClientId} {old : AgentSlot} {v : S
   unfolding others weight
   incs-old = i .incs ∙ ap (λ (n : ℕ). n % 256) (omega (arith, slot-below, l .split .parts incarnationP, l .split .parts markP))
 
-  incs-new : others + tally incarnationP qs + incarnationS (v .slot) + tally markP qs ≡ weight incarnationP incarnationS (apply k c v qs rest r) + tally markP (packets (apply k c v qs rest r .wire))
+  incs-new : others + tally incarnationP qs + incarnationS (v .slot) + tally markP qs
+      ≡ weight incarnationP incarnationS (apply k c v qs rest r) + tally markP (packets (apply k c v qs rest r .wire))
   unfolding others weight
   incs-new =
       omega (
@@ -115,8 +117,8 @@ pub record Frame (r : LockState) (k : MachineId) (old : AgentSlot) (v : Site) (g
   pub was : slotAt r (k .0) ≡ old
   pub owner : v .decider .owner ≡ r .decider .owner
 
-pub framed : {r : LockState} {k : MachineId} {old : AgentSlot} {v : Site} {gone rest : List Packet} → Split r gone rest → k .0 < machines → slotAt r (k .0) ≡ old
-    → v .decider .owner ≡ r .decider .owner → Frame r k old v gone rest
+pub framed : {r : LockState} {k : MachineId} {old : AgentSlot} {v : Site} {gone rest : List Packet} → Split r gone rest → k .0 < machines
+    → slotAt r (k .0) ≡ old → v .decider .owner ≡ r .decider .owner → Frame r k old v gone rest
 framed sp kk es o = record { split = sp; machine = kk; was = es; owner = o }
 
 -- What such a step has to show: nothing of it speaks of the wire's other packets.
@@ -136,7 +138,8 @@ pub record Local (r : LockState) (k : MachineId) (c : ClientId) (old : AgentSlot
   pub reach : tally farP qs ≡ 0
   pub vacancy : tally rejectedP rest + tally rejectedP qs + tally vacantS (set (r .agents) (k .0) (v .slot)) ≤ tally markP rest + tally markP qs
 
-module _ {r : LockState} {k : MachineId} {c : ClientId} {old : AgentSlot} {v : Site} {gone qs rest : List Packet} (i : Inv r) (l : Local r k c old v gone qs rest) where
+module _ {r : LockState} {k : MachineId} {c : ClientId} {old : AgentSlot} {v : Site} {gone qs rest : List Packet}
+    (i : Inv r) (l : Local r k c old v gone qs rest) where
   keep-slots : (j : ℕ) → misfitS (r .decider .owner) j (slotAt (apply k c v qs rest r) j) ≡ 0
   keep-slots j = go (ℕ-discrete j (k .0))
     where
@@ -179,7 +182,8 @@ pub record Calm (r : LockState) (k : MachineId) (c : ClientId) (old : AgentSlot)
   pub reach : tally farP qs ≡ 0
   pub vacancy : tally rejectedP rest + tally rejectedP qs + tally vacantS (set (r .agents) (k .0) (v .slot)) ≤ tally markP rest + tally markP qs
 
-module _ {r : LockState} {k : MachineId} {c : ClientId} {old : AgentSlot} {v : Site} {gone qs rest : List Packet} (i : Inv r) (l : Calm r k c old v gone qs rest) where
+module _ {r : LockState} {k : MachineId} {c : ClientId} {old : AgentSlot} {v : Site} {gone qs rest : List Packet}
+    (i : Inv r) (l : Calm r k c old v gone qs rest) where
   told-same : (d : ℕ) → told r c (v .status) d ≡ statusAt r d
   told-same d = rw (l .status) (untold r c d)
 
@@ -201,15 +205,16 @@ module _ {r : LockState} {k : MachineId} {c : ClientId} {old : AgentSlot} {v : S
       })
 
 -- the vacancy, from the slot and the packets of the step alone
-pub vacancy-by : {r : LockState} {old : AgentSlot} {k : MachineId} {gone rest : List Packet} (new : AgentSlot) (sends : List Packet) → Inv r → Split r gone rest → k .0 < machines → slotAt r (k .0) ≡ old
-    → tally rejectedP sends + vacantS new + tally markP gone ≤ tally rejectedP gone + vacantS old + tally markP sends
+pub vacancy-by : {r : LockState} {old : AgentSlot} {k : MachineId} {gone rest : List Packet} (new : AgentSlot) (sends : List Packet) → Inv r → Split r gone rest
+    → k .0 < machines → slotAt r (k .0) ≡ old → tally rejectedP sends + vacantS new + tally markP gone ≤ tally rejectedP gone + vacantS old + tally markP sends
     → tally rejectedP rest + tally rejectedP sends + tally vacantS (set (r .agents) (k .0) new) ≤ tally markP rest + tally markP sends
 unfolding weight
 vacancy-by {r} {old} {k} new sends i sp kk e h =
     omega (arith, i .vacancy, sp .parts markP, sp .parts rejectedP, rw e at (tally-set vacantS noAgent (r .agents) (k .0) new (omega (arith, i .all-machines))))
 
 -- ---- the packet p goes out again as q, for another address or rejected: the same message, with the same agent
-pub same-mark : (r : LockState) (p : Packet) (rest : List Packet) → Inv r → Split r (p ∷ []) rest → rejectedP p + tally rejectedP rest + tally vacantS (r .agents) ≤ tally markP (packets (r .wire))
+pub same-mark : (r : LockState) (p : Packet) (rest : List Packet) → Inv r → Split r (p ∷ []) rest
+    → rejectedP p + tally rejectedP rest + tally vacantS (r .agents) ≤ tally markP (packets (r .wire))
 unfolding weight tally
 same-mark r p rest i sp = omega (arith, i .vacancy, sp .parts rejectedP)
 

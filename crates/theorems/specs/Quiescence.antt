@@ -27,8 +27,7 @@ no-agent-on x v h =
 no-agent-on-any : (xs : List AgentSlot) → tally vacantS xs ≡ 0 → ((d : ℕ) → tally (listedS d) xs ≡ 0) → tally agentS xs ≡ 0
 unfolding tally
 no-agent-on-any [] v h = refl
-no-agent-on-any (x ∷ xs) v h =
-    omega (arith, no-agent-on x (omega arith) (λ d. omega (arith, h d)), no-agent-on-any xs (omega arith) (λ d. omega (arith, h d)))
+no-agent-on-any (x ∷ xs) v h = omega (arith, no-agent-on x (omega arith) (λ d. omega (arith, h d)), no-agent-on-any xs (omega arith) (λ d. omega (arith, h d)))
 
 -- a slot without an agent is blank
 blank-slot : (x : AgentSlot) → slotFormed x ≡ true → x .present ≡ false → x ≡ noAgent
@@ -77,17 +76,18 @@ module _ (r : LockState) (i : Inv r) (f : lockFormed r ≡ true) (empty : packet
 
   waiting-none : (d : ℕ) (m : Mode) → waitF m (statusAt r d) ≡ 0
   waiting-none d m =
-      omega (arith, i .waits d m, only-slots (waitingP d m) (queuedS d m), tally-none agentS (queuedS d m) (λ x z. absent x (absent-of x z) .queuedS d m) (r .agents) no-agents)
+      let queued = tally-none agentS (queuedS d m) (λ x z. absent x (absent-of x z) .queuedS d m) (r .agents) no-agents in
+      omega (arith, i .waits d m, only-slots (waitingP d m) (queuedS d m), queued)
 
   agents : r .agents ≡ replicate machines noAgent
   agents = rw (i .all-machines) at (blank-slots (r .agents) (parts r f .agents) no-agents)
 
-  statuses-idle : r .clients ≡ replicate clients idle
-  statuses-idle = rw (i .all-clients) at (idle-clients (r .clients) (λ d. idle-is (statusAt r d) (omega (arith, waiting-none d Exclusive, waiting-none d Shared, nobody d))))
+  statuses : r .clients ≡ replicate clients idle
+  statuses = rw (i .all-clients) at (idle-clients (r .clients) (λ d. idle-is _ (omega (arith, waiting-none d Exclusive, waiting-none d Shared, nobody d))))
 
   wire : r .wire ≡ wireOf []
   wire = rw empty at (wire-whole (r .wire) (wire-canonical (r .wire) (parts r f .wire)))
 
   pub is-fresh : r ≡ freshLock
   unfolding freshLock
-  is-fresh = rw (owner, free-inc r i owner, agents, statuses-idle, wire)
+  is-fresh = rw (owner, free-inc r i owner, agents, statuses, wire)

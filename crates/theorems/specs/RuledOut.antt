@@ -6,7 +6,7 @@ use mathlib.Core.List.{List, [], _∷_}
 use Prim.Native.Nat.{ℕ, zero, suc}
 use native.Mathlib.Omega.{arith}
 use Rattle.theorems.specs.Names.{LockId, MachineId, Mode, Shared, Owned, AgentSlot, Cluster, Call, AcquireCall, DeliverCall, LockRange, Refusal, Answer}
-use Rattle.theorems.specs.Names.{Accepted, Refused, Outcome, Malformed, LockState, Drained, true, false, locks, done}
+use Rattle.theorems.specs.Names.{Accepted, Refused, Outcome, Malformed, LockState, Drained, locks, done}
 use lib.ListN.{length, getD}
 use lib.Dec.{leb}
 use Rattle.model.specs.States.{noAgent, wireOf, lockIn, freshLock}
@@ -83,7 +83,8 @@ answers-one e a m f =
     apart LockRange (sym yes ∙ no)
 
 -- ---- one that serves the first delivery of a lock and afterwards only shifts packets: a delivery on an owned lock leaves its agents
-pub shifts-only : (e : Engine) → Meets e → ((l : LockId) (i : ℕ) (x : Cluster) → (o : Mode) (k : MachineId) → lockIn x l .decider .owner ≡ Owned o k → lockIn (e (DeliverCall l i) x .cluster) l .agents ≡ lockIn x l .agents) → ⊥
+pub shifts-only : (e : Engine) → Meets e → ((l : LockId) (i : ℕ) (x : Cluster) → (o : Mode) (k : MachineId) → lockIn x l .decider .owner ≡ Owned o k
+    → lockIn (e (DeliverCall l i) x .cluster) l .agents ≡ lockIn x l .agents) → ⊥
 unfolding noAgent
 shifts-only e m f =
     let x = with0 d3-rejected in
@@ -103,9 +104,9 @@ record Own (x : Cluster) (l : LockId) (d : Drainage) : Type 0 where
   quiescent : d .answer ≡ Accepted → Quiescent l (lockIn (d .cluster) l)
   others : (j : LockId) → (j .0 ≡ l .0 → ⊥) → lockIn (d .cluster) j ≡ lockIn x j
 
-next-lock : (l : LockId) (s : LockState) (a : Call) → NextIs l s a → lockOf a ≡ l
-next-lock l s _ (delivers-first b) = refl
-next-lock l s _ (releases-holder k t m i b e st) = refl
+next-lock : {l : LockId} {s : LockState} {a : Call} → NextIs l s a → lockOf a ≡ l
+next-lock (delivers-first b) = refl
+next-lock (releases-holder k t m i b e st) = refl
 
 own : (n : ℕ) (l : LockId) (x : Cluster) → Own x l (drainage n l x)
 unfolding drainage
@@ -116,10 +117,11 @@ own zero l x = go (nextCall l (lockIn x l)) refl
     go (some a) e = rw (e, drainage) (record { quiescent = λ q. absurd (apart _ (sym q)); others = λ j h. refl })
 own (suc n) l x = go (nextCall l (lockIn x l)) refl (own n l)
   where
-    step : (a : Call) → nextCall l (lockIn x l) ≡ some a → (r : Answer) → perform a x .answer ≡ r → Own (perform a x .cluster) l (drainage n l (perform a x .cluster)) → Own x l (drainage (suc n) l x)
+    step : (a : Call) → nextCall l (lockIn x l) ≡ some a → (r : Answer) → perform a x .answer ≡ r
+        → Own (perform a x .cluster) l (drainage n l (perform a x .cluster)) → Own x l (drainage (suc n) l x)
     step a e Accepted q o =
         rw (e, drainage) (rw q
-        (record { quiescent = o .quiescent; others = λ j h. o .others j h ∙ perform-elsewhere a x j (rw (next-lock l (lockIn x l) a (next-is l (lockIn x l) a e)) h) }))
+        (record { quiescent = o .quiescent; others = λ j h. o .others j h ∙ perform-elsewhere a x j (rw (next-lock (next-is l (lockIn x l) a e)) h) }))
     step a e (Refused r) q o = rw (e, drainage) (rw q (record { quiescent = λ w. absurd (apart r (sym w)); others = λ j h. refl }))
 
     go : (m : Next) → nextCall l (lockIn x l) ≡ m → ((y : Cluster) → Own y l (drainage n l y)) → Own x l (drainage (suc n) l x)

@@ -47,7 +47,8 @@ reached cs = reached-run cs fresh reached-fresh
 -- ---- a call on such a cluster: denied by a test, or accepted
 pub data Answered (a : Call) (x : Cluster) : Type 0 where
   denied-by : (r : Refusal) → refusalNumber r ≤ 8 → perform a x ≡ refusing r x → Answered a x
-  accepted-by : Allowed a (lockIn x (lockOf a)) → perform a x .answer ≡ Accepted → lockIn (perform a x .cluster) (lockOf a) ≡ stepOf a (lockIn x (lockOf a)) .state → Answered a x
+  accepted-by : Allowed a (lockIn x (lockOf a)) → perform a x .answer ≡ Accepted
+      → lockIn (perform a x .cluster) (lockOf a) ≡ stepOf a (lockIn x (lockOf a)) .state → Answered a x
 
 pub answered : (a : Call) (x : Cluster) → Reached x → Answered a x
 unfolding settled
@@ -56,7 +57,7 @@ answered a x h = go (call-cases a x (h .formed))
     go : CallCases a x → Answered a x
     go (denied r m n e) = denied-by r n e
     go (passed b al e) =
-        accepted-by al (ap (λ (o : Outcome). o .answer) e ∙ rw (sound-step a (lockIn x (lockOf a)) al (h .invs (lockOf a)) .taken)) (perform-here a x (h .formed) b e)
+        accepted-by al (ap (λ (o : Outcome). o .answer) e ∙ rw (sound-step a _ al (h .invs (lockOf a)) .taken)) (perform-here a x (h .formed) b e)
 
 -- the number of each answer is at most 8
 pub number-below : (a : Call) (x : Cluster) → Reached x → number (perform a x .answer) ≤ 8

@@ -105,13 +105,16 @@ ok = Accepted
 abbrev firstAgent : Agent
 firstAgent = agent Shared (0 ∷ []) 0
 
--- D1: decider shared, machine 0, incarnation 0.
+-- D1: the new agent is under way to 0/0
 abbrev pub d1 : LockState
 d1 = lock (owned Shared 0 0) nowhere (status 0 (Waiting Shared) others) (carrying (Grant (client 0) Shared) (ToMachine (machine 0)) (newAgent Shared) ∷ [])
 
--- the listing after record 3: 0/0 holds
+abbrev holding0 : List ClientState
+holding0 = status 0 (Holding Shared) others
+
+-- and there: 0/0 holds
 abbrev d1-held : LockState
-d1-held = lock (owned Shared 0 0) (on0 firstAgent) (status 0 (Holding Shared) others) []
+d1-held = lock (owned Shared 0 0) (on0 firstAgent) holding0 []
 
 abbrev grantTo1 : Packet
 grantTo1 = plain (Grant (client 4) Shared) (ToMachine (machine 1))
@@ -119,87 +122,79 @@ grantTo1 = plain (Grant (client 4) Shared) (ToMachine (machine 1))
 abbrev markedTo0 : Packet
 markedTo0 = plain (Acquire (client 4) Shared true) (ToMachine (machine 0))
 
--- D2: wire is GRANT to 1, marked ACQUIRE to 0; decider's incarnation 1.
+abbrev waiting4 : Mode → List ClientState → List ClientState
+waiting4 m = status 4 (Waiting m)
+
+-- D2: 1/0 may share the lock: its GRANT and the agent's copy of its request are under way
 abbrev d2 : LockState
-d2 = lock (owned Shared 0 1) (on0 firstAgent) (status 4 (Waiting Shared) (status 0 (Holding Shared) others)) (grantTo1 ∷ markedTo0 ∷ [])
+d2 = lock (owned Shared 0 1) (on0 firstAgent) (waiting4 Shared holding0) (grantTo1 ∷ markedTo0 ∷ [])
 
-abbrev waiting4 : List ClientState
-waiting4 = status 4 (Waiting Shared) others
-
--- D3: FREE with incarnation 0 at place 2.
+-- D3: 0/0 has released, and the agent leaves with the old incarnation
 abbrev d3 : LockState
-d3 = lock (owned Shared 0 1) nowhere waiting4 (grantTo1 ∷ markedTo0 ∷ carrying Free ToDecider (agent Shared [] 0) ∷ [])
+d3 = lock (owned Shared 0 1) nowhere (waiting4 Shared others) (grantTo1 ∷ markedTo0 ∷ carrying Free ToDecider (agent Shared [] 0) ∷ [])
 
--- D3: delivered, it is turned back to machine 0.
+-- so the decider rejects it
 abbrev pub d3-rejected : LockState
-d3-rejected = lock (owned Shared 0 1) nowhere waiting4 (grantTo1 ∷ markedTo0 ∷ returning Free 0 (agent Shared [] 0) ∷ [])
+d3-rejected = lock (owned Shared 0 1) nowhere (waiting4 Shared others) (grantTo1 ∷ markedTo0 ∷ returning Free 0 (agent Shared [] 0) ∷ [])
 
--- D4: an agent on machine 0, no holders.
+-- D4: the agent is where it was, and lists nobody
 abbrev pub d4 : LockState
-d4 = lock (owned Shared 0 1) (on0 (agent Shared [] 0)) waiting4 (grantTo1 ∷ markedTo0 ∷ [])
+d4 = lock (owned Shared 0 1) (on0 (agent Shared [] 0)) (waiting4 Shared others) (grantTo1 ∷ markedTo0 ∷ [])
 
--- D5: holder 1/0, agent's incarnation 1.
+-- D5: it has taken the mark, and lists 1/0
 abbrev d5 : LockState
-d5 = lock (owned Shared 0 1) (on0 (agent Shared (4 ∷ []) 1)) waiting4 (grantTo1 ∷ [])
+d5 = lock (owned Shared 0 1) (on0 (agent Shared (4 ∷ []) 1)) (waiting4 Shared others) (grantTo1 ∷ [])
 
--- D6: the RELEASE is on its way back to the decider; 0/0 is still listed.
+-- D6: 1/0's release came to the agent before the mark did, and was sent back
 abbrev d6 : LockState
-d6 = lock (owned Shared 0 1) (on0 firstAgent) (status 0 (Holding Shared) others) (markedTo0 ∷ plain (Release (client 4)) ToDecider ∷ [])
+d6 = lock (owned Shared 0 1) (on0 firstAgent) holding0 (markedTo0 ∷ plain (Release (client 4)) ToDecider ∷ [])
 
--- D8: 0/0 holds exclusively, 1/0 queued exclusively
+abbrev waits : ℕ → Waiter
+waits c = record { client = client c; mode = Exclusive }
+
+-- D8: an exclusive holder, and another client in its agent's queue
 abbrev d8-queued : LockState
-d8-queued =
-    lock (owned Exclusive 0 0)
-    (on0 (queue (record { client = client 4; mode = Exclusive } ∷ []) (agent Exclusive (0 ∷ []) 0)))
-    (status 4 (Waiting Exclusive) (status 0 (Holding Exclusive) others)) []
+d8-queued = lock (owned Exclusive 0 0) (on0 (queue (waits 4 ∷ []) (agent Exclusive (0 ∷ []) 0))) (waiting4 Exclusive (status 0 (Holding Exclusive) others)) []
 
--- D8: exclusive, machine 1.
+-- and the holder has released: the agent goes to the other
 abbrev d8 : LockState
-d8 =
-    lock (owned Exclusive 1 0) nowhere (status 4 (Waiting Exclusive) others)
-    (carrying (Grant (client 4) Exclusive) (ToMachine (machine 1)) (agent Exclusive [] 0) ∷ [])
+d8 = lock (owned Exclusive 1 0) nowhere (waiting4 Exclusive others) (carrying (Grant (client 4) Exclusive) (ToMachine (machine 1)) (agent Exclusive [] 0) ∷ [])
 
 -- D9: incarnation 255 at decider and agent
 abbrev d9-start : LockState
-d9-start = lock (owned Shared 0 255) (on0 (agent Shared (0 ∷ []) 255)) (status 0 (Holding Shared) others) []
+d9-start = lock (owned Shared 0 255) (on0 (agent Shared (0 ∷ []) 255)) holding0 []
 
--- D9: remote shared grant: 0.
+-- the decider's wraps around with a mark,
 abbrev d9 : LockState
-d9 = lock (owned Shared 0 0) (on0 (agent Shared (0 ∷ []) 255)) (status 4 (Waiting Shared) (status 0 (Holding Shared) others)) (grantTo1 ∷ markedTo0 ∷ [])
+d9 = lock (owned Shared 0 0) (on0 (agent Shared (0 ∷ []) 255)) (waiting4 Shared holding0) (grantTo1 ∷ markedTo0 ∷ [])
 
--- and 0 at the agent, once the marked ACQUIRE is there
+-- and the agent's when the mark arrives
 abbrev d9-agent : LockState
-d9-agent = lock (owned Shared 0 0) (on0 (agent Shared (4 ∷ 0 ∷ []) 0)) (status 4 (Waiting Shared) (status 0 (Holding Shared) others)) (grantTo1 ∷ [])
+d9-agent = lock (owned Shared 0 0) (on0 (agent Shared (4 ∷ 0 ∷ []) 0)) (waiting4 Shared holding0) (grantTo1 ∷ [])
 
 -- ---- the tempting faults
 -- a marked ACQUIRE that comes back is not granted again: no incarnation, no second GRANT
 abbrev f-marked : LockState
-f-marked = lock (owned Shared 0 1) nowhere waiting4 (grantTo1 ∷ carrying Free ToDecider (agent Shared [] 0) ∷ markedTo0 ∷ [])
+f-marked = lock (owned Shared 0 1) nowhere (waiting4 Shared others) (grantTo1 ∷ carrying Free ToDecider (agent Shared [] 0) ∷ markedTo0 ∷ [])
 
 -- a local shared grant moves no incarnation
 abbrev f-local : LockState
-f-local = lock (owned Shared 0 0) (on0 (agent Shared (1 ∷ 0 ∷ []) 0)) (status 1 (Holding Shared) (status 0 (Holding Shared) others)) []
+f-local = lock (owned Shared 0 0) (on0 (agent Shared (1 ∷ 0 ∷ []) 0)) (status 1 (Holding Shared) holding0) []
 
 -- an unmarked shared ACQUIRE at a shared agent
 abbrev f-unmarked : LockState
-f-unmarked =
-    lock (owned Shared 0 0) (on0 firstAgent) (status 4 (Waiting Shared) (status 0 (Holding Shared) others)) (plain (Acquire (client 4) Shared false) (ToMachine (machine 0)) ∷ [])
+f-unmarked = lock (owned Shared 0 0) (on0 firstAgent) (waiting4 Shared holding0) (plain (Acquire (client 4) Shared false) (ToMachine (machine 0)) ∷ [])
 
 -- adds a holder and sends a GRANT for it
 abbrev f-granted : LockState
-f-granted =
-    lock (owned Shared 0 0) (on0 (agent Shared (4 ∷ 0 ∷ []) 0)) (status 4 (Waiting Shared) (status 0 (Holding Shared) others)) (plain (Grant (client 4) Shared) ToDecider ∷ [])
-
--- a rejected GRANT for 1/0, behind which 2/0 waits
-abbrev waits : ℕ → Waiter
-waits c = record { client = client c; mode = Exclusive }
+f-granted = lock (owned Shared 0 0) (on0 (agent Shared (4 ∷ 0 ∷ []) 0)) (waiting4 Shared holding0) (plain (Grant (client 4) Shared) ToDecider ∷ [])
 
 abbrev asking : List ClientState
-asking = status 8 (Waiting Exclusive) (status 4 (Waiting Exclusive) others)
+asking = status 8 (Waiting Exclusive) (waiting4 Exclusive others)
 
+-- a rejected GRANT for 1/0, behind which 2/0 waits
 abbrev f-rejected : LockState
-f-rejected =
-    lock (owned Shared 0 1) nowhere asking (returning (Grant (client 4) Exclusive) 0 (queue (waits 8 ∷ []) (agent Shared [] 0)) ∷ [])
+f-rejected = lock (owned Shared 0 1) nowhere asking (returning (Grant (client 4) Exclusive) 0 (queue (waits 8 ∷ []) (agent Shared [] 0)) ∷ [])
 
 -- has its waiter back at the queue's front
 abbrev f-requeued : LockState
@@ -221,11 +216,11 @@ scenarios =
     -- D5
     ∷ from d4 (delivers0 1 ∷ []) (ok ∷ []) d5
     -- D6
-    ∷ from d2 (delivers0 0 ∷ releases0 1 0 ∷ delivers0 1 ∷ delivers0 1 ∷ []) (ok ∷ ok ∷ ok ∷ ok ∷ []) d6
+    ∷ from d2 (delivers0 0 ∷ releases0 1 0 ∷ delivers0 1 ∷ delivers0 1 ∷ []) (replicate 4 ok) d6
     -- D7
     ∷ from d6 (acquires0 1 0 3 ∷ []) (Refused StillNamed ∷ []) d6
     -- D8
-    ∷ from freshLock (acquires0 0 0 2 ∷ delivers0 0 ∷ delivers0 0 ∷ acquires0 1 0 2 ∷ delivers0 0 ∷ delivers0 0 ∷ []) (ok ∷ ok ∷ ok ∷ ok ∷ ok ∷ ok ∷ []) d8-queued
+    ∷ from freshLock (acquires0 0 0 2 ∷ delivers0 0 ∷ delivers0 0 ∷ acquires0 1 0 2 ∷ delivers0 0 ∷ delivers0 0 ∷ []) (replicate 6 ok) d8-queued
     ∷ from d8-queued (releases0 0 0 ∷ delivers0 0 ∷ []) (ok ∷ ok ∷ []) d8
     -- D9
     ∷ from d9-start (acquires0 1 0 3 ∷ delivers0 0 ∷ []) (ok ∷ ok ∷ []) d9
@@ -240,5 +235,10 @@ scenarios =
     ∷ []
 
 pub scenarios-hold : Hold scenarios
-unfolding scenarios run perform acquire release deliver unless settled first wellFormed lockFormed wireFormed packetFormed messageFormed slotFormed agentFormed isBlankAgent isBlankPacket isBlankWaiter queueFormed distinct shaped acquireStep releaseStep deliverStep takes finish delivers atDecider decides decidesAcquire decidesFree decidesGrant toOwner atMachine arrives acquireArrives releaseArrives freeArrives marked unmarked grantArrives rejectedGrantArrives mayShare mayJoin installs admitted staying joined clientAcquires clientAsks clientReleases staysIf handOver padded removed queueOf waiters noAgent blankPacket wireOf packets freshLock
-scenarios-hold = (refl, (refl, (refl, (refl, (refl, (refl, (refl, (refl, (refl, (refl, (refl, (refl, (refl, (refl, (refl, (refl, (refl, (refl, tt))))))))))))))))))
+unfolding scenarios run perform acquire release deliver unless settled first acquireStep releaseStep deliverStep takes finish delivers
+    wellFormed lockFormed wireFormed packetFormed messageFormed slotFormed agentFormed isBlankAgent isBlankPacket isBlankWaiter queueFormed distinct shaped
+    atDecider decides decidesAcquire decidesFree decidesGrant toOwner atMachine arrives acquireArrives releaseArrives freeArrives marked unmarked
+    grantArrives rejectedGrantArrives mayShare mayJoin installs admitted staying joined clientAcquires clientAsks clientReleases staysIf handOver
+    padded removed queueOf waiters noAgent blankPacket wireOf packets freshLock
+scenarios-hold =
+    (refl, (refl, (refl, (refl, (refl, (refl, (refl, (refl, (refl, (refl, (refl, (refl, (refl, (refl, (refl, (refl, (refl, (refl, tt))))))))))))))))))

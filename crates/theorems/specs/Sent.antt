@@ -2,6 +2,7 @@
 use Rattle.theorems.specs.Names.{_≡_, refl, MachineId, ClientId, Mode, Exclusive, Shared, Owner, Unowned, Agent, Address, ToDecider, ToMachine, Message}
 use Rattle.theorems.specs.Names.{Free, Acquire, Grant, Release, Packet, Site, LockState, Bool, true, false, and-false, false≢true, List, arith, pick}
 use Rattle.theorems.specs.Names.{machines, isShared, Verdict, cannot-place, does, mayJoin, ownedShared, mayShare, and-left, and-right, [], _∷_, _<_}
+use Rattle.laws.specs.Tests.{pick-by}
 use Rattle.theorems.specs.Weights.{farP, fits, fitsP, misfitP}
 use Rattle.theorems.specs.Invariant.{Inv}
 use Rattle.theorems.specs.InvariantStep.{Keeps, Split, same-mark, Still, keep-resent}
@@ -15,8 +16,7 @@ Good r k c rest (does v qs) = Keeps r k c rest v qs
 -- by the test of a choice
 pub good-by : (r : LockState) (k : MachineId) (c : ClientId) (rest : List Packet) (b : Bool) (v w : Verdict)
     → (b ≡ true → Good r k c rest v) → (b ≡ false → Good r k c rest w) → Good r k c rest (pick b v w)
-good-by r k c rest true v w f g = f refl
-good-by r k c rest false v w f g = g refl
+good-by r k c rest b v w = pick-by (Good r k c rest) b
 
 -- ---- where a rule says that a request may share or join, lock or agent and request are shared
 pub shared-is : (m : Mode) → isShared m ≡ true → m ≡ Shared
@@ -83,7 +83,7 @@ module _ {r : LockState} {rest : List Packet} (i : Inv r) where
   impossible {p = p} sp f = absurd (omega (arith, rw f at (came-fits r rest p i sp)))
 
   -- a packet whose fitting does not turn on its address
-  pub keep-on : {k : MachineId} {c : ClientId} {v : Site} → Still r k c v → k .0 < machines → (p q : Packet) → q .message ≡ p .message → q .carried ≡ p .carried → q .rejected ≡ p .rejected
-      → ((o : Owner) → fitsP o p ≡ fitsP o q) → farP q ≡ 0 → Split r (p ∷ []) rest → Keeps r k c rest v (q ∷ [])
+  pub keep-on : {k : MachineId} {c : ClientId} {v : Site} → Still r k c v → k .0 < machines → (p q : Packet) → q .message ≡ p .message → q .carried ≡ p .carried
+      → q .rejected ≡ p .rejected → ((o : Owner) → fitsP o p ≡ fitsP o q) → farP q ≡ 0 → Split r (p ∷ []) rest → Keeps r k c rest v (q ∷ [])
   unfolding misfitP
   keep-on st kk p q m x b e fa sp = keep-resent i st kk p q m x sp (rw (e (r .decider .owner)) at (came-fits r rest p i sp)) (rw b (same-mark r p rest i sp)) fa

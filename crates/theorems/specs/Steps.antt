@@ -1,6 +1,6 @@
 -- Every step that a call makes is accepted and keeps the invariant: no refusal 9, no refusal 10.
 use Rattle.theorems.specs.Names.{MachineId, ClientId, Mode, Address, ToDecider, ToMachine, Packet, Idle, Holding, LockState, Accepted, Stepped, _≡_, refl}
-use Rattle.theorems.specs.Names.{ap, true, false, List, [], _∷_, _++_, ℕ, _+_, _≤_, _<_, arith, length, length-append, leb, ltb, ltb-true, le-leb, any}
+use Rattle.theorems.specs.Names.{ap, true, false, List, [], _∷_, _++_, ℕ, _+_, _<_, arith, length, length-append, leb, ltb-true, le-leb, any}
 use Rattle.theorems.specs.Names.{removed, agentOn, statusOf, blankPacket, packets, Site, siteOf, Verdict, cannot-place, does, apply, finish, atDecider}
 use Rattle.theorems.specs.Names.{atMachine, names, machineAt, clientNamed, packetAt, delivers, acquireStep, releaseStep, takes, deliverStep, packets-of}
 use Rattle.theorems.specs.Names.{machines, clients, wireCapacity, Bool, pick, resent}
@@ -14,16 +14,16 @@ use Rattle.theorems.specs.AtDecider.{good-decides}
 use Rattle.theorems.specs.AtMachine.{good-arrives}
 use Rattle.theorems.specs.Clients.{names-none, good-client-acquires, good-client-releases}
 
-good-delivers : (r : LockState) (rest : List Packet) (i : Inv r) (p : Packet) (t : Address) → farA t ≡ 0 → Split r (resent p t (p .rejected) ∷ []) rest
-    → Good r (machineAt t) (clientNamed (p .message)) rest (delivers t (siteOf r (machineAt t) (clientNamed (p .message))) (resent p t (p .rejected)))
-unfolding delivers atDecider atMachine farM
-good-delivers r rest i p ToDecider e sp = good-decides r rest i _ (clientNamed (p .message)) (omega arith) p (p .message) (r .decider .owner) (p .carried .present) refl sp
-good-delivers r rest i p (ToMachine k) e sp =
-    good-arrives r rest i k (ltb-true (k .0) machines (fit (ltb (k .0) machines) e)) (agentOn r k .agent) p (p .message) (agentOn r k .present) (p .rejected) (p .carried .present) refl sp
-
 -- what the delivery of a packet comes to
 abbrev pub verdict : LockState → Packet → Verdict
 verdict r p = delivers (p .to) (siteOf r (machineAt (p .to)) (clientNamed (p .message))) p
+
+good-delivers : (r : LockState) (rest : List Packet) (i : Inv r) (p : Packet) (t : Address) → farA t ≡ 0 → Split r (resent p t (p .rejected) ∷ []) rest
+    → Good r (machineAt t) (clientNamed (p .message)) rest (verdict r (resent p t (p .rejected)))
+unfolding delivers atDecider atMachine farM
+good-delivers r rest i p ToDecider e sp = good-decides r rest i _ _ (omega arith) p (p .message) (r .decider .owner) (p .carried .present) refl sp
+good-delivers r rest i p (ToMachine k) e sp =
+    good-arrives r rest i k (ltb-true (k .0) machines (fit _ e)) _ p (p .message) (agentOn r k .present) (p .rejected) (p .carried .present) refl sp
 
 -- the packet at the index j
 pub good-deliver : (r : LockState) (i : Inv r) (j : ℕ) → j < length (packets (r .wire))
@@ -49,23 +49,24 @@ says-by P true v w f g = f
 says-by P false v w f g = g
 
 module _ (k : MachineId) (c : ClientId) where
-  room-after : (v : Site) (qs rest : List Packet) (r : LockState) → Inv (apply k c v qs rest r) → length rest + length qs ≤ wireCapacity
-  room-after v qs rest r i = omega (arith, wire-bound (apply k c v qs rest r) i, ap length (packets-of (rest ++ qs)), length-append rest qs)
+  room-after : (v : Site) (qs rest : List Packet) (r : LockState) → Inv (apply k c v qs rest r) → leb (length rest + length qs) wireCapacity ≡ true
+  room-after v qs rest r i =
+      le-leb (length rest + length qs) wireCapacity
+      (omega (arith, wire-bound (apply k c v qs rest r) i, ap length (packets-of (rest ++ qs)), length-append rest qs))
 
   pub after-step : (P : Site → List Packet → Type 0) (Q : LockState → Type 0) (w : Verdict) (rest : List Packet) (r : LockState) → Good r k c rest w → Says P w
       → ((v : Site) (qs : List Packet) → P v qs → Q (apply k c v qs rest r)) → Q (finish k c w rest r .state)
   unfolding finish
   after-step P Q cannot-place rest r g p q = absurd g
-  after-step P Q (does v qs) rest r g p q = let e : leb (length rest + length qs) wireCapacity ≡ true = le-leb _ wireCapacity (room-after v qs rest r (g .inv)) in rw e (q v qs p)
+  after-step P Q (does v qs) rest r g p q = rw (room-after v qs rest r (g .inv)) (q v qs p)
 
   sound : (w : Verdict) (rest : List Packet) (r : LockState) → Good r k c rest w → Sound (finish k c w rest r)
   unfolding finish
   sound cannot-place rest r g = absurd g
-  sound (does v qs) rest r g =
-      let e : leb (length rest + length qs) wireCapacity ≡ true = le-leb _ wireCapacity (room-after v qs rest r (g .inv)) in
-      rw e (record { taken = refl; inv = g .inv })
+  sound (does v qs) rest r g = rw (room-after v qs rest r (g .inv)) (record { taken = refl; inv = g .inv })
 
-pub sound-acquire : (r : LockState) (i : Inv r) (c : ClientId) (m : Mode) → c .0 < clients → statusOf r c ≡ Idle → any (names c) (packets (r .wire)) ≡ false → Sound (acquireStep r c m)
+pub sound-acquire : (r : LockState) (i : Inv r) (c : ClientId) (m : Mode) → c .0 < clients → statusOf r c ≡ Idle → any (names c) (packets (r .wire)) ≡ false
+    → Sound (acquireStep r c m)
 unfolding acquireStep
 sound-acquire r i c m cl id u = sound _ _ _ (packets (r .wire)) r (good-client-acquires r i c cl id (names-none c (packets (r .wire)) u) m)
 

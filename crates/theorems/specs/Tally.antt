@@ -40,6 +40,13 @@ module _ {A : Type 0} where
   pub tally-at : (f : A → ℕ) (d : A) (xs : List A) (i : ℕ) → i < length xs → f (getD xs i d) ≤ tally f xs
   tally-at f d xs i h = omega (arith, tally-removed f d xs i h)
 
+  -- at any index, where the default counts nothing
+  pub tally-any : (f : A → ℕ) (d : A) → f d ≡ 0 → (xs : List A) (i : ℕ) → f (getD xs i d) ≤ tally f xs
+  unfolding tally
+  tally-any f d z [] i = omega (arith, z)
+  tally-any f d z (x ∷ xs) zero = omega arith
+  tally-any f d z (x ∷ xs) (suc i) = omega (arith, tally-any f d z xs i)
+
   pub tally-le : (f g : A → ℕ) → ((x : A) → f x ≤ g x) → (xs : List A) → tally f xs ≤ tally g xs
   unfolding tally
   tally-le f g h [] = omega arith

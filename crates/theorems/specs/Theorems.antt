@@ -4,7 +4,7 @@ use Rattle.theorems.specs.Names.{Packet, LockState, Cluster, Call, Answe
 use Rattle.theorems.specs.Names.{leb, eqb-true, eqb-false, eq-eqb, ne-eqb, le-leb, all, removed, statusOf, lockIn, packets, fresh, current, packetAt}
 use Rattle.theorems.specs.Names.{answersOf, after, perform, number, unseen, both, bool-cases}
 use Rattle.theorems.specs.Tally.{tally}
-use Rattle.theorems.specs.Weights.{agentS, agentP, incarnationS, incarnationP, markP, fits, misfitP}
+use Rattle.theorems.specs.Weights.{agentS, agentP, incarnationS, incarnationP, markP, fitsP, misfitP}
 use Rattle.theorems.specs.Invariant.{Inv}
 use Rattle.theorems.specs.InvariantStep.{Split, split-at}
 use Rattle.theorems.specs.Facts.{fit, came-fits, away-of, wire-bound, marks-bound, silent-equal, differ}
@@ -59,8 +59,8 @@ module _ (s : LockState) (i : Inv s) (j : ℕ) (h : j < length (packets (s .wire
   small : p .carried .agent .incarnation < 256
   unfolding misfitP
   small =
-      let f : fits (s .decider .owner) (p .carried .present) (p .to) (p .rejected) (p .carried .agent) (p .message) ≡ true = fit _ (came-fits s _ p i sp) in
-      away-of (p .carried .agent) (carried-away (s .decider .owner) (p .to) (p .rejected) (p .carried .agent) (p .message) (rw e at f)) .small
+      let f = fit (fitsP (s .decider .owner) p) (came-fits s _ p i sp) in
+      away-of (p .carried .agent) (carried-away (s .decider .owner) (p .to) (p .rejected) _ (p .message) (rw e at f)) .small
 
   current-sound : current (s .decider) p ≡ eqb (tally markP (packets (s .wire))) 0
   current-sound =
@@ -70,8 +70,4 @@ module _ (s : LockState) (i : Inv s) (j : ℕ) (h : j < length (packets (s .wire
       q ∙ sym (ne-eqb (tally markP (packets (s .wire))) 0 (λ z. omega (arith, z, d))))
 
 pub incarnation-sound : (cs : List Call) → IncarnationSound cs
-incarnation-sound cs =
-    record {
-      bounded = λ l. marks-bound (lockIn (after cs) l) (reached cs .invs l);
-      sound = λ l j h e. current-sound (lockIn (after cs) l) (reached cs .invs l) j h e;
-    }
+incarnation-sound cs = record { bounded = λ l. marks-bound _ (reached cs .invs l); sound = λ l. current-sound _ (reached cs .invs l) }

@@ -1,6 +1,5 @@
--- Weights: what a packet, an agent's slot or a status counts for. A count over a lock's state is a weight summed over the packets
--- on the wire plus one summed over the all-machines machines, so there is no agent to search for. Clients and machines are numbers here.
--- Suffixes: M of a message, P of a packet, S of a slot, W of a waiter, F of a status or an owner.
+-- What a packet, a slot or a status counts for. Every count is a sum over a lock's packets and machines, so there is no agent to search for.
+-- Suffixes: M of a message, P of a packet, S of a slot, W of a waiter, F of a status or an owner. Clients and machines are numbers here.
 use Rattle.theorems.specs.Names.{Bool, true, false, _&&_, not, ℕ, _+_, _*_, length, getD, eqb, leb, ltb, MachineId, ClientId, Mode, Exclusive, Shared}
 use Rattle.theorems.specs.Names.{Owner, Unowned, Owned, Waiter, Agent, AgentSlot, Address, ToDecider, ToMachine, Message, Acquire, Grant, Release, Free}
 use Rattle.theorems.specs.Names.{Packet, Status, Idle, Waiting, Holding, LockState, waiters, noAgent, idle, packets, machines, clients, machineOf}
