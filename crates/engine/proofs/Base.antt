@@ -19,7 +19,7 @@ pub use Rattle.engine.specs.FormedLaws.{shaped-short, pass-whole, pass-f
 unfoldable pub use Rattle.engine.specs.FormedLaws.{allNew}
 pub use Rattle.engine.specs.Names.{LockId, LockState}
 pub use Rattle.laws.specs.Formed.{ready, lock-formed}
-pub use Rattle.engine.specs.LockCalls.{lock-read}
+pub use Rattle.engine.specs.LockCalls.{lock-read, read-formed}
 pub use Rattle.engine.specs.DrainState.{holderFrom, holder-here, holder-next, holder-end, Open, Progress, progress-start, progress-more}
 pub use Rattle.engine.specs.DrainState.{delivery-planned, release-planned, none-holds, progress-quiescent, progress-spent, progress-refused}
 pub use Rattle.engine.specs.DrainState.{progress-on, made, drain-ends, drain-stops, drain-malformed, drain-range}

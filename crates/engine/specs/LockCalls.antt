@@ -14,12 +14,12 @@ use Rattle.engine.specs.Names.{StillNamed, NotHolding, IndexRange, Answe
 use Rattle.engine.specs.Names.{DeliverCall, Stepped, Outcome}
 use Rattle.model.specs.Lists.{any}
 use Rattle.model.specs.States.{locks, machines, tasks, clientOf, modeOf, statusOf, packets, freshLock, lockIn}
-use Rattle.model.specs.WellFormed.{wellFormed}
+use Rattle.model.specs.WellFormed.{lockFormed, wellFormed}
 use Rattle.model.specs.Changes.{refused}
 use Rattle.model.specs.Refusals.{Cause, _when_, first}
 use Rattle.model.specs.Calls.{isIdle, isHolding, names, acquireStep, releaseStep, deliverStep, refusing, settled, unless, acquire, release, deliver, perform}
 use Rattle.laws.specs.Lists.{getD-any}
-use Rattle.laws.specs.Formed.{all-locks}
+use Rattle.laws.specs.Formed.{all-locks, lock-formed}
 use Rattle.laws.specs.CallSteps.{lockOf, stepOf, step-refused}
 use Rattle.laws.specs.Clusters.{perform-formed}
 use Rattle.rules.specs.declared.plan.Plan.{Plan}
@@ -80,6 +80,9 @@ in-range k t cs e =
 -- the lock's state as code reads it, with any default
 pub lock-read : (x : Cluster) (l : LockId) (d : LockState) → wellFormed x ≡ true → l .0 < locks → getD (x .locks) (l .0) d ≡ lockIn x l
 lock-read x l d e h = getD-any (x .locks) (l .0) d freshLock (omega (arith, all-locks x e, h))
+
+pub read-formed : (x : Cluster) (l : LockId) (d : LockState) → wellFormed x ≡ true → l .0 < locks → lockFormed (getD (x .locks) (l .0) d) ≡ true
+read-formed x l d e h = rw (lock-read x l d e h) (lock-formed x l e h)
 
 -- ---- a call is its tests on the cluster, and then the step on one lock
 unless-on : (a : Answer) (x : Cluster) (l : LockId) (s : LockState) (r : Stepped)
@@ -171,14 +174,17 @@ perform-whole c x e h = rw (perform-on c x e h) (go (callOn c (lockIn x (lockOf 
     go Accepted q = refl
     go (Refused r) q = rw (on-refused c (lockIn x (lockOf c)) r q, set-getD (x .locks) (lockOf c .0) freshLock)
 
--- the call by its plan: written where it accepts, the cluster left where it refuses
-module _ (c : Call) (x : Cluster) (p : Plan) (e : wellFormed x ≡ true) (h : lockOf c .0 < locks) (g : Plans p (lockIn x (lockOf c)) (callOn c (lockIn x (lockOf c)))) where
-  pub perform-accepts : p .answer ≡ Accepted
-      → record { answer = p .answer; cluster = record { locks = set (x .locks) (lockOf c .0) (carriedOut p (lockIn x (lockOf c))) } } ≡ perform c x
-  perform-accepts q = rw (q, perform-whole c x e h, ← plan-accepts g q)
+-- the call by its plan on t, the state of its lock l: written where it accepts, the cluster left where it refuses
+module _ (c : Call) (x : Cluster) (w : wellFormed x ≡ true) {l : LockId} (h : l .0 < locks) (q : l ≡ lockOf c) {t : LockState} (e : t ≡ lockIn x l)
+    {p : Plan} (g : Plans p t (callOn c t)) where
+  whole : perform c x ≡ record { answer = callOn c t .answer; cluster = record { locks = set (x .locks) (l .0) (callOn c t .state) } }
+  whole = rw (e, q) (perform-whole c x w (rw q at h))
+
+  pub perform-accepts : p .answer ≡ Accepted → record { answer = p .answer; cluster = record { locks = set (x .locks) (l .0) (carriedOut p t) } } ≡ perform c x
+  perform-accepts a = rw (a, whole, ← plan-accepts g a)
 
   pub perform-refuses : (n : Refusal) → p .answer ≡ Refused n → record { answer = p .answer; cluster = x } ≡ perform c x
-  perform-refuses n q = rw (q, perform-whole c x e h, ← plan-refuses g n q, set-getD (x .locks) (lockOf c .0) freshLock)
+  perform-refuses n a = rw (a, whole, ← plan-refuses g n a) (rw (e, set-getD (x .locks) (l .0) freshLock))
 
 pub perform-written : (c : Call) (x : Cluster) → wellFormed x ≡ true → lockOf c .0 < locks → perform c x .cluster ≡ writtenBy c x
 perform-written c x e h = ap (λ (o : Outcome). o .cluster) (perform-whole c x e h)

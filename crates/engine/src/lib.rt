@@ -15,8 +15,12 @@ use model::Refusal;
 use model::TaskId;
 use rules::plan::carry_out;
 ghost use mathlib.Core.Path.{_≡_};
-ghost use Rattle.model.specs.States.{fresh};
+ghost use mathlib.Core.Bool.{true};
+ghost use Prim.Native.Nat.{_<_};
+ghost use Rattle.model.specs.States.{locks, fresh};
+ghost use Rattle.model.specs.WellFormed.{wellFormed};
 ghost use Rattle.model.specs.Calls.{acquire, release, deliver, perform};
+ghost use Rattle.laws.specs.CallSteps.{lockOf};
 
 mod cluster;
 mod draining;
@@ -67,27 +71,35 @@ pub fn deliver(x: Cluster, lock: LockId, index: u8) -> Outcome
     perform(Call::Deliver { lock, index }, x)
 }
 
+// A well-formed cluster, and the call's lock is one of it: the lock's state is written in its place where the call is accepted.
+fn perform_on(l: LockId, c: Call, x: Cluster) -> Outcome
+    requires { ⌜ (wellFormed x ≡ true) × ((l .0 < locks) × (l ≡ lockOf c)) ⌝ }
+    ensures { λ r. ⌜ r ≡ perform c x ⌝ }
+{
+    let mut y = x;
+    let i = l.0 as usize;
+    let s = y.locks[i];
+    let p = plan_call(c, s);
+    let a = p.answer;
+    match a {
+        Answer::Accepted => {
+            y.locks[i] = carry_out(p, s);
+        }
+        Answer::Refused(_) => {}
+    }
+    Outcome {
+        answer: a,
+        cluster: y,
+    }
+}
+
 pub fn perform(c: Call, x: Cluster) -> Outcome
     ensures { λ r. ⌜ r ≡ perform c x ⌝ }
 {
     if well_formed(x) {
         let l = lock_of(c);
         if l.0 < LOCKS as u8 {
-            let mut y = x;
-            let i = l.0 as usize;
-            let s = y.locks[i];
-            let p = plan_call(c, s);
-            let a = p.answer;
-            match a {
-                Answer::Accepted => {
-                    y.locks[i] = carry_out(p, s);
-                }
-                Answer::Refused(_) => {}
-            }
-            Outcome {
-                answer: a,
-                cluster: y,
-            }
+            perform_on(l, c, x)
         } else {
             refuse_call(Refusal::LockRange, x)
         }
