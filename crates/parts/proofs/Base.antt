@@ -16,7 +16,7 @@ pub use Rattle.model.specs.WellFormed.{isClient}
 pub use Rattle.model.specs.Calls.{names}
 pub use Rattle.laws.specs.Lists.{getD-any}
 pub use Rattle.laws.specs.Shapes.{packet-is, waiter-is}
-pub use Rattle.parts.specs.Arrays.{cutUsed, cutUsed-step, cutUsed-last, cutAt, cutAt-in, cutAt-out, slid, slid-down, slid-last}
+pub use Rattle.parts.specs.Arrays.{cutUsed, cutUsed-step, cutUsed-last, cutAt, cutAt-in, cutAt-out, cutAt-step, slid, slid-down, slid-last}
 pub use Rattle.parts.specs.Writes.{queued-at, cut-off, popped, fronted}
 pub use Rattle.parts.specs.Scans.{any-hit, any-miss, any-none, used-hit, used-miss, used-none}
 pub use Rattle.laws.specs.Tests.{pick-yes, pick-no}

@@ -1,5 +1,5 @@
 -- What the loops do to an array, and what that does to the list in its first slots.
-use mathlib.Core.Path.{_≡_, refl}
+use mathlib.Core.Path.{_≡_, refl, sym, _∙_}
 use mathlib.Core.List.{List, [], _∷_, _++_, append-assoc}
 use Prim.Native.Nat.{ℕ, suc, _+_, _-_, _<_, _≤_}
 use native.Mathlib.Numerals.{add-one}
@@ -49,6 +49,9 @@ module _ {A : Type 0} where
   pub cutAt-out : (xs : List A) (i n : ℕ) (z : A) → n ≤ i → cutAt xs i n z ≡ xs
   unfolding cutAt
   cutAt-out xs i n z h = pick-yes (cutUsed xs i n z) (le-leb n i h)
+
+  pub cutAt-step : (xs : List A) (i n : ℕ) (z d : A) → i + 1 < n → n ≤ length xs → cutAt (set xs i (getD xs (i + 1) d)) (i + 1) n z ≡ cutAt xs i n z
+  cutAt-step xs i n z d h k = cutAt-in _ _ n z h ∙ cutUsed-step xs i n z d h k ∙ sym (cutAt-in xs i n z (omega arith))
 
   -- z is put in front of the first j, and the element at j is left out for it
   unfoldable pub slid : List A → ℕ → A → List A

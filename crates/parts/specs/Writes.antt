@@ -14,23 +14,27 @@ use Rattle.laws.specs.Lists.{length-removed}
 use Rattle.laws.specs.Shapes.{CanonicalWire, CanonicalQueue, length-packets, wire-whole}
 use Rattle.parts.specs.Arrays.{cutUsed, cutAt, cutAt-in, cutAt-out, slid, canonical-push, canonical-cut, canonical-front}
 
-pub sent-at : (w : Wire) (p : Packet) → CanonicalWire w → w .len < wireCapacity → record { slots = set (w .slots) (w .len) p; len = w .len + 1 } ≡ wireOf (packets w ++ p ∷ [])
-unfolding packets wireOf
-sent-at w p h k =
-    let e : length (take (w .len) (w .slots) ++ p ∷ []) ≡ w .len + 1 = simp length-append (omega (arith, h .size)) in
-    rw (e, canonical-push wireCapacity blankPacket (w .slots) (w .len) h p k)
+-- the length of a list with one more, and with one less
+sized-more : {A : Type 0} (xs : List A) (a : A) (n : ℕ) → length xs ≡ n → length (xs ++ a ∷ []) ≡ n + 1
+sized-more xs a n e = simp length-append (omega (arith, e))
 
-pub queued-at : (q : Queue) (a : Waiter) → CanonicalQueue q → q .len < queueCapacity → record { slots = set (q .slots) (q .len) a; len = q .len + 1 } ≡ queueOf (waiters q ++ a ∷ [])
+pub sized-less : {A : Type 0} (xs : List A) (i n : ℕ) → length xs ≡ n → i < n → length (removed xs i) ≡ n - 1
+sized-less xs i n e h = omega (arith, length-removed xs i (omega (arith, e)), e)
+
+pub sent-at : (w : Wire) (p : Packet) → CanonicalWire w → w .len < wireCapacity
+    → record { slots = set (w .slots) (w .len) p; len = w .len + 1 } ≡ wireOf (packets w ++ p ∷ [])
+unfolding packets wireOf
+sent-at w p h k = rw (sized-more (take (w .len) (w .slots)) p (w .len) (h .size), canonical-push wireCapacity blankPacket (w .slots) (w .len) h p k)
+
+pub queued-at : (q : Queue) (a : Waiter) → CanonicalQueue q → q .len < queueCapacity
+    → record { slots = set (q .slots) (q .len) a; len = q .len + 1 } ≡ queueOf (waiters q ++ a ∷ [])
 unfolding waiters queueOf
-queued-at q a h k =
-    let e : length (take (q .len) (q .slots) ++ a ∷ []) ≡ q .len + 1 = simp length-append (omega (arith, h .size)) in
-    rw (e, canonical-push queueCapacity blankWaiter (q .slots) (q .len) h a k)
+queued-at q a h k = rw (sized-more (take (q .len) (q .slots)) a (q .len) (h .size), canonical-push queueCapacity blankWaiter (q .slots) (q .len) h a k)
 
-taken-off : (w : Wire) (i : ℕ) → CanonicalWire w → i < w .len → record { slots = cutUsed (w .slots) i (w .len) blankPacket; len = w .len - 1 } ≡ wireOf (removed (packets w) i)
+taken-off : (w : Wire) (i : ℕ) → CanonicalWire w → i < w .len
+    → record { slots = cutUsed (w .slots) i (w .len) blankPacket; len = w .len - 1 } ≡ wireOf (removed (packets w) i)
 unfolding packets wireOf
-taken-off w i h k =
-    let e : length (removed (take (w .len) (w .slots)) i) ≡ w .len - 1 = omega (arith, length-removed (take (w .len) (w .slots)) i (omega (arith, h .size)), h .size) in
-    rw (e, canonical-cut wireCapacity blankPacket (w .slots) (w .len) h i k)
+taken-off w i h k = rw (sized-less (take (w .len) (w .slots)) i (w .len) (h .size) k, canonical-cut wireCapacity blankPacket (w .slots) (w .len) h i k)
 
 pub removed-none : (ps : List Packet) (i : ℕ) → length ps ≤ i → removed ps i ≡ ps
 unfolding removed
@@ -52,13 +56,13 @@ cut-off w i h = go (leb (w .len) i) refl
         let k : i < w .len = leb-false (w .len) i e in
         rw (e, cutAt-in (w .slots) i (w .len) blankPacket k) (taken-off w i h k)
 
-pub popped : (q : Queue) → CanonicalQueue q → 0 < q .len → record { slots = cutUsed (q .slots) 0 (q .len) blankWaiter; len = q .len - 1 } ≡ queueOf (removed (waiters q) 0)
+pub popped : (q : Queue) → CanonicalQueue q → 0 < q .len
+    → record { slots = cutUsed (q .slots) 0 (q .len) blankWaiter; len = q .len - 1 } ≡ queueOf (removed (waiters q) 0)
 unfolding waiters queueOf
-popped q h k =
-    let e : length (removed (take (q .len) (q .slots)) 0) ≡ q .len - 1 = omega (arith, length-removed (take (q .len) (q .slots)) 0 (omega (arith, h .size)), h .size) in
-    rw (e, canonical-cut queueCapacity blankWaiter (q .slots) (q .len) h 0 k)
+popped q h k = rw (sized-less (take (q .len) (q .slots)) 0 (q .len) (h .size) k, canonical-cut queueCapacity blankWaiter (q .slots) (q .len) h 0 k)
 
-pub fronted : (q : Queue) (a : Waiter) → CanonicalQueue q → q .len < queueCapacity → record { slots = slid (q .slots) (q .len) a; len = q .len + 1 } ≡ queueOf (a ∷ waiters q)
+pub fronted : (q : Queue) (a : Waiter) → CanonicalQueue q → q .len < queueCapacity
+    → record { slots = slid (q .slots) (q .len) a; len = q .len + 1 } ≡ queueOf (a ∷ waiters q)
 unfolding waiters queueOf
 fronted q a h k =
     let e : length (a ∷ take (q .len) (q .slots)) ≡ q .len + 1 = omega (arith, h .size) in

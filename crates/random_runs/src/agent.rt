@@ -1,5 +1,4 @@
-// docs/random-runs.md, 'Hand-made states': the agent and the faults 1, 2, 3 and 9. As there, f is the fault at the slot, 0 where
-// there is none, v its number, and s the generator's state.
+// docs/random-runs.md, 'Hand-made states': the agent, faults 1, 2, 3 and 9. As there, f is the slot's fault or 0, v its number, s the generator's state.
 ghost use Prim.Native.Nat.{_<_};
 ghost use Rattle.model.specs.States.{clients, queueCapacity};
 use crate::generator::draw;

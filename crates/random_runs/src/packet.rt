@@ -1,5 +1,4 @@
-// docs/random-runs.md, 'Hand-made states': the packet and the faults 4 to 8. As there, f is the fault at the slot, 0 where there
-// is none, v its number, and s the generator's state.
+// docs/random-runs.md, 'Hand-made states': the packet, faults 4 to 8. As there, f is the slot's fault or 0, v its number, s the generator's state.
 use crate::agent::agent;
 use crate::agent::agent_slot;
 use crate::agent::mode;

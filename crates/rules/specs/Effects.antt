@@ -72,9 +72,10 @@ used-slots : {A : Type 0} (n : ℕ) (xs : List A) → take (length (take n xs)) 
 used-slots {A = A} n xs = ap (λ (ys : List A). take (length (take n xs)) ys) (sym (take-append-drop n xs)) ∙ take-append-seam (take n xs) (drop n xs)
 
 -- the packets ps, then the GRANTs
-pub posted-both : (w : Wire) (ps : List Packet) (ws : List Waiter) (n k m : ℕ) → CanonicalWire w → w .len + length (ps ++ map grantOf (take n ws)) ≤ wireCapacity
-    → length ps ≡ k → length (take n ws) ≡ m
-    → record { slots = sets (sets (w .slots) (w .len) ps) (w .len + k) (map grantOf (take m ws)); len = w .len + k + m } ≡ wireOf (packets w ++ (ps ++ map grantOf (take n ws)))
+pub posted-both : (w : Wire) (ps : List Packet) (ws : List Waiter) (n k m : ℕ) → CanonicalWire w
+    → w .len + length (ps ++ map grantOf (take n ws)) ≤ wireCapacity → length ps ≡ k → length (take n ws) ≡ m
+    → record { slots = sets (sets (w .slots) (w .len) ps) (w .len + k) (map grantOf (take m ws)); len = w .len + k + m }
+    ≡ wireOf (packets w ++ (ps ++ map grantOf (take n ws)))
 posted-both w ps ws n k m h r e f =
     let u : take m ws ≡ take n ws = rw (← f) (used-slots n ws) in
     let l : w .len + k + m ≡ w .len + length (ps ++ map grantOf (take n ws)) = simp (length-append, length-map) (omega (arith, e, f)) in

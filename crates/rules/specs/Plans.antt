@@ -5,7 +5,6 @@ use mathlib.Core.List.{List}
 use Prim.Native.Nat.{ℕ, _+_, _<_, _≤_}
 use native.Mathlib.Omega.{arith}
 use lib.ListN.{length}
-use lib.Dec.{leb}
 use borrow.Author.Tests.{le-leb, lt-leb}
 use Rattle.rules.specs.declared.effect.Effect.{Effect}
 use Rattle.rules.specs.declared.plan.Plan.{Plan}
@@ -14,7 +13,8 @@ use Rattle.model.specs.Lists.{removed}
 use Rattle.model.specs.States.{wireCapacity, wireOf, packets}
 use Rattle.model.specs.Changes.{Verdict, cannot-place, does, apply, accepted, refused, finish}
 use Rattle.laws.specs.Tests.{pick-yes, pick-no}
-use Rattle.laws.specs.Shapes.{CanonicalWire, canonical-wire}
+use Rattle.laws.specs.Shapes.{CanonicalWire, canonical-wire, length-packets}
+use Rattle.parts.specs.Writes.{removed-none}
 use Rattle.rules.specs.Effects.{sentBy, verdictOf}
 
 -- the packets that stay on the wire
@@ -58,20 +58,26 @@ module _ (k : MachineId) (c : ClientId) (e : Effect) (rest : List Packet) (s : L
   module _ (p : e .placed ≡ true) where
     pub finish-full : wireCapacity < length rest + length (sentBy (e .sends)) → refused WireFull s ≡ finish k c (verdictOf e) rest s
     unfolding finish verdictOf
-    finish-full h =
-        let f : leb (length rest + length (sentBy (e .sends))) wireCapacity ≡ false = lt-leb (length rest + length (sentBy (e .sends))) wireCapacity h in
-        sym (ap (λ (v : Verdict). finish k c v rest s) (pick-yes cannot-place p) ∙ pick-no (accepted (apply k c (e .site) (sentBy (e .sends)) rest s)) f)
+    finish-full h = sym (ap (λ (v : Verdict). finish k c v rest s) (pick-yes cannot-place p) ∙ pick-no _ (lt-leb _ _ h))
 
-    finish-fits : length rest + length (sentBy (e .sends)) ≤ wireCapacity → accepted (apply k c (e .site) (sentBy (e .sends)) rest s) ≡ finish k c (verdictOf e) rest s
+    finish-fits : length rest + length (sentBy (e .sends)) ≤ wireCapacity
+        → accepted (apply k c (e .site) (sentBy (e .sends)) rest s) ≡ finish k c (verdictOf e) rest s
     unfolding finish verdictOf
-    finish-fits h =
-        let f : leb (length rest + length (sentBy (e .sends))) wireCapacity ≡ true = le-leb (length rest + length (sentBy (e .sends))) wireCapacity h in
-        sym (ap (λ (v : Verdict). finish k c v rest s) (pick-yes cannot-place p) ∙ pick-yes (refused WireFull s) f)
+    finish-fits h = sym (ap (λ (v : Verdict). finish k c v rest s) (pick-yes cannot-place p) ∙ pick-yes _ (le-leb _ _ h))
 
-pub plans-effect : (k : MachineId) (c : ClientId) (e : Effect) (i : ℕ) (s : LockState) → e .placed ≡ true → length (removed (packets (s .wire)) i) + length (sentBy (e .sends)) ≤ wireCapacity
+pub plans-effect : (k : MachineId) (c : ClientId) (e : Effect) (i : ℕ) (s : LockState) → e .placed ≡ true
+    → length (removed (packets (s .wire)) i) + length (sentBy (e .sends)) ≤ wireCapacity
     → Plans (record { answer = Accepted; index = i; machine = k; client = c; effect = e }) s (finish k c (verdictOf e) (removed (packets (s .wire)) i) s)
 unfolding endsWith
 plans-effect k c e i s p h = record { ends = finish-fits k c e (removed (packets (s .wire)) i) s p h; fits = λ q. h }
+
+-- a client's call takes no packet off the wire
+pub plans-call : (p : Plan) (s : LockState) (k : MachineId) (c : ClientId) (v : Verdict) → CanonicalWire (s .wire)
+    → (length (removed (packets (s .wire)) wireCapacity) ≡ s .wire .len → Plans p s (finish k c v (removed (packets (s .wire)) wireCapacity) s))
+    → Plans p s (finish k c v (packets (s .wire)) s)
+plans-call p s k c v h f =
+    let g = removed-none (packets (s .wire)) wireCapacity (omega (arith, length-packets (s .wire) h, h .short)) in
+    rw g at (f (ap length g ∙ length-packets (s .wire) h))
 
 -- ---- the wire without the packet taken off has room for those sent
 pub rest-fits : (w : Wire) (ps : List Packet) (k : ℕ) → w ≡ wireOf ps → length ps + k ≤ wireCapacity → (CanonicalWire w) × (w .len + k ≤ wireCapacity)

@@ -1,5 +1,4 @@
-// A rule's effect planned, and carried out. Rules only say what a step does; the state is written here and nowhere else, so that it is copied for an
-// accepted step, and not for each rule on the way or for a refusal.
+// Rules only say what a step does. The state is written here alone, so that it is copied for an accepted step, not for each rule on the way or for a refusal.
 use crate::effect::Effect;
 use crate::effect::Sends;
 use crate::effect::cannot_place;
@@ -135,7 +134,7 @@ fn apply(k: MachineId, u: ClientId, e: Effect, rest: Wire, s: LockState) -> Lock
     }
 }
 
-// A step before it is made: its answer and, where that accepts, the index of the packet that it takes off the wire, the machine and the client that it is about, and its effect.
+// A step before it is made: its answer; where that accepts, the index of the packet taken off the wire, the machine and the client concerned, and the effect.
 pub struct Plan {
     pub answer: Answer,
     pub(crate) index: u8,

@@ -21,12 +21,13 @@ use Rattle.model.specs.declared.Reading.{Reading}
 use Rattle.model.specs.declared.Reading.the-variants.{Record, Bad, End}
 use Rattle.model.specs.Lists.{pick}
 use Rattle.model.specs.States.{locks}
-use Rattle.model.specs.WellFormed.{wellFormed}
+use Rattle.model.specs.WellFormed.{lockFormed, wellFormed}
 use Rattle.model.specs.Refusals.{first}
 use Rattle.model.specs.Changes.{refused}
 use Rattle.model.specs.Calls.{perform}
 use Rattle.model.specs.Transcripts.{short, acquireAt, releaseAt, deliverAt, wholeRecord, readRecord, replayed, replayFrom, replayUnless, replay}
 use Rattle.laws.specs.Tests.{and-right}
+use Rattle.laws.specs.Formed.{lock-formed}
 use Rattle.laws.specs.CallSteps.{lockOf}
 use Rattle.laws.specs.Clusters.{perform-formed}
 use Rattle.engine.specs.LockCalls.{callOn, lock-read, perform-range, writtenBy, perform-written, written-formed}
@@ -37,7 +38,8 @@ data Ends (bytes : List ℕ) (i : ℕ) : Reading → Type 0 where
   bad : Ends bytes i Bad
   end : Ends bytes i End
 
-ends-if : {bytes : List ℕ} {i : ℕ} (b : Bool) {r t : Reading} → (b ≡ true → Ends bytes i r) → (b ≡ false → Ends bytes i t) → Ends bytes i (pick b r t)
+ends-if : {bytes : List ℕ} {i : ℕ} (b : Bool) {r t : Reading} → (b ≡ true → Ends bytes i r) → (b ≡ false → Ends bytes i t)
+    → Ends bytes i (pick b r t)
 ends-if true f g = f refl
 ends-if false f g = g refl
 
@@ -63,16 +65,21 @@ record-ends bytes i c j e = go (rw e at (reading-ends bytes i))
     go (inside h k) = (h, k)
 
 -- ---- a call on its lock's state, written back in its place
-module _ (c : Call) (y : Cluster) (l : LockId) (d : LockState) (o : Stepped) (w : wellFormed y ≡ true) (e : l ≡ lockOf c) (h : l .0 < locks) (q : o ≡ callOn c (getD (y .locks) (l .0) d)) where
-  in-place : _≡_ {A = Cluster} (record { locks = set (y .locks) (l .0) (o .state) }) (writtenBy c y)
+abbrev placed : Cluster → LockId → Stepped → Cluster
+placed y l o = record { locks = set (y .locks) (l .0) (o .state) }
+
+module _ (c : Call) (y : Cluster) (l : LockId) (d : LockState) (o : Stepped) (w : wellFormed y ≡ true) (e : l ≡ lockOf c) (h : l .0 < locks)
+    (q : o ≡ callOn c (getD (y .locks) (l .0) d)) where
+  in-place : placed y l o ≡ writtenBy c y
   in-place = rw (q, lock-read y l d w h, e)
 
-  pub place-formed : wellFormed (record { locks = set (y .locks) (l .0) (o .state) }) ≡ true
+  pub place-formed : wellFormed (placed y l o) ≡ true
   place-formed = rw in-place (written-formed c y w (rw e at h))
 
 -- ---- one record of the run
 module _ (left : ℕ) (bytes : List ℕ) (i n : ℕ) (x : Cluster) where
-  from-record : (c : Call) (j : ℕ) → readRecord bytes i ≡ Record c j → replayFrom (suc left) bytes i n x ≡ replayFrom left bytes j (n + 1) (perform c x .cluster)
+  from-record : (c : Call) (j : ℕ) → readRecord bytes i ≡ Record c j
+      → replayFrom (suc left) bytes i n x ≡ replayFrom left bytes j (n + 1) (perform c x .cluster)
   unfolding replayFrom
   from-record c j e = rw (e, replayFrom)
 
@@ -97,6 +104,10 @@ course-start bytes x w =
     record { left = rw e; formed = w; behind = omega arith; inside = omega arith }
 
 module _ {bytes : List ℕ} {x : Cluster} {i n : ℕ} {y : Cluster} (p : Course bytes x i n y) where
+  -- the state that a call is planned on, read from the cluster with any default
+  pub course-lock : (l : LockId) (d : LockState) → l .0 < locks → lockFormed (getD (y .locks) (l .0) d) ≡ true
+  course-lock l d h = rw (lock-read y l d (p .formed) h) (lock-formed y l (p .formed) h)
+
   pub course-on : (c : Call) (j : ℕ) → readRecord bytes i ≡ Record c j → Course bytes x j (n + 1) (perform c y .cluster)
   course-on c j e =
       let h = record-ends bytes i c j e in
@@ -109,7 +120,7 @@ module _ {bytes : List ℕ} {x : Cluster} {i n : ℕ} {y : Cluster} (p : Course 
       }
 
   pub course-step : (c : Call) (j : ℕ) (l : LockId) (d : LockState) (o : Stepped) → readRecord bytes i ≡ Record c j → l ≡ lockOf c → l .0 < locks
-      → o ≡ callOn c (getD (y .locks) (l .0) d) → Course bytes x j (n + 1) (record { locks = set (y .locks) (l .0) (o .state) })
+      → o ≡ callOn c (getD (y .locks) (l .0) d) → Course bytes x j (n + 1) (placed y l o)
   course-step c j l d o e q h f =
       let w = p .formed in
       rw (in-place c y l d o w q h f, ← perform-written c y w (rw q at h)) (course-on c j e)
@@ -131,14 +142,15 @@ module _ {bytes : List ℕ} {x : Cluster} {i n : ℕ} {y : Cluster} (p : Course 
   course-end e = sym (from-end _ bytes i n y e) ∙ p .left
 
 -- ---- 11, then 13, before any record is run
-pub replay-malformed : (x : Cluster) (bytes : List ℕ) → wellFormed x ≡ false → replay x bytes ≡ replayed (Refused Malformed) 0 x
-unfolding replay replayUnless first
-replay-malformed x bytes e = rw e
+module _ (x : Cluster) (bytes : List ℕ) where
+  pub replay-malformed : wellFormed x ≡ false → replay x bytes ≡ replayed (Refused Malformed) 0 x
+  unfolding replay replayUnless first
+  replay-malformed e = rw e
 
-pub replay-long : (x : Cluster) (bytes : List ℕ) → wellFormed x ≡ true → 65535 < length bytes → replay x bytes ≡ replayed (Refused TranscriptLength) 0 x
-unfolding replay replayUnless first
-replay-long x bytes e h = rw (e, lt-ltb 65535 (length bytes) h)
+  pub replay-long : wellFormed x ≡ true → 65535 < length bytes → replay x bytes ≡ replayed (Refused TranscriptLength) 0 x
+  unfolding replay replayUnless first
+  replay-long e h = rw (e, lt-ltb 65535 (length bytes) h)
 
-pub replay-runs : (x : Cluster) (bytes : List ℕ) → wellFormed x ≡ true → length bytes ≤ 65535 → replay x bytes ≡ replayFrom (length bytes + 1) bytes 0 0 x
-unfolding replay replayUnless first
-replay-runs x bytes e h = rw (e, le-ltb 65535 (length bytes) h)
+  pub replay-runs : wellFormed x ≡ true → length bytes ≤ 65535 → replay x bytes ≡ replayFrom (length bytes + 1) bytes 0 0 x
+  unfolding replay replayUnless first
+  replay-runs e h = rw (e, le-ltb 65535 (length bytes) h)

@@ -4,11 +4,6 @@ use Rattle.model.specs.States.{queueCapacity}
 use Rattle.digest.proofs.waiters.Statement.{statement}
 use Rattle.digest.proofs.waiters.Tie as tie
 
-abbrev Inv-loop : tie.InvT-loop
-Inv-loop h n slots h₀ i₀ h' i = Unit
-
-abbrev μ-loop : tie.MeasureT-loop
-μ-loop h n slots h₀ i₀ h' i = queueCapacity - i
-
 pub waiters-spec : {M : Type 1} → statement M
-waiters-spec = tie.close (tie.spec Inv-loop μ-loop (λ c. search needs) (λ c. search needs) (λ c. search needs) (λ c. search needs) (λ c κs. search needs) (λ c. search needs) (λ c. search needs) (λ c. search needs) (λ c. search needs))
+waiters-spec = tie.close (tie.spec (λ _ _ _ _ _ _ _. Unit) (λ _ _ _ _ _ _ i. queueCapacity - i) (search needs) (search needs) (search needs) (search needs)
+    (search needs) (search needs) (search needs) (search needs) (search needs))

@@ -3,11 +3,6 @@ use borrow.Author.Needs.{needs}
 use Rattle.random_runs.proofs.states.Statement.{statement}
 use Rattle.random_runs.proofs.states.Tie as tie
 
-abbrev Inv-loop : tie.InvT-loop
-Inv-loop seed₀ seed = Unit
-
-abbrev μ-loop : tie.MeasureT-loop
-μ-loop seed₀ seed = 4001 - seed
-
 pub states-spec : {M : Type 1} → statement M
-states-spec = tie.close (tie.spec Inv-loop μ-loop (λ c. search needs) (λ c κs. search needs) (λ c. search needs) (λ c. search needs) (λ c. search needs) (λ c. search needs))
+states-spec = tie.close (tie.spec (λ _ _. Unit) (λ _ seed. 4001 - seed) (search needs) (search needs) (search needs) (search needs) (search needs)
+    (search needs))

@@ -30,4 +30,4 @@ returns-2 c =
     sym (any-none (λ (b : Bool). b) hs (l .j) false (omega arith)) ∙ l .inv .0
 
 pub any-holder-spec : {M : Type 1} → statement M
-any-holder-spec = tie.close (tie.spec Inv-loop μ-loop (λ c. search needs) (λ c. search needs) returns (λ c. search needs) (λ c. search needs) loop-again returns-2)
+any-holder-spec = tie.close (tie.spec Inv-loop μ-loop (search needs) (search needs) returns (search needs) (search needs) loop-again returns-2)

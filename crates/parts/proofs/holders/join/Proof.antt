@@ -2,8 +2,5 @@ use Rattle.parts.proofs.Base.{needs}
 use Rattle.parts.proofs.holders.join.Statement.{statement}
 use Rattle.parts.proofs.holders.join.Tie as tie
 
-returns : tie.Need-returns
-returns c = rw (c .set-holder .ensures)
-
 pub join-spec : {M : Type 1} → statement M
-join-spec = tie.close (tie.spec (λ c κs. search needs) returns)
+join-spec = tie.close (tie.spec (search needs) (λ c. rw (c .set-holder .ensures)))

@@ -21,4 +21,5 @@ returns c =
     rw (c .blank-waiter .ensures) (cutUsed-last (l .b) (l .j) (s .args .n) blankWaiter (omega arith) (omega arith)) ∙ l .inv .0
 
 pub cut-waiters-spec : {M : Type 1} → statement M
-cut-waiters-spec = tie.close (tie.spec Inv-loop μ-loop (λ c. search needs) (λ c. search needs) (λ c. search needs) (λ c. search needs) (λ c. search needs) (λ c. search needs) (λ c. search needs) (λ c. search needs) (λ c. search needs) loop-again (λ c κs. search needs) (λ c. search needs) (λ c. search needs) returns)
+cut-waiters-spec = tie.close (tie.spec Inv-loop μ-loop (λ c. search needs) (search needs) (search needs) (search needs) (search needs) (search needs)
+    (search needs) (search needs) (search needs) loop-again (search needs) (search needs) (search needs) returns)

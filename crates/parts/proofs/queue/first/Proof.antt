@@ -2,8 +2,5 @@ use Rattle.parts.proofs.Base.{needs, waiter-is}
 use Rattle.parts.proofs.queue.first.Statement.{statement}
 use Rattle.parts.proofs.queue.first.Tie as tie
 
-returns : tie.Need-returns
-returns c = waiter-is (c .before .args .t1) 0 _ (c .before .pre .0) (c .before .pre .1)
-
 pub first-spec : {M : Type 1} → statement M
-first-spec = tie.close (tie.spec (λ c. search needs) returns)
+first-spec = tie.close (tie.spec (search needs) (λ c. waiter-is (c .before .args .t1) 0 _ (c .before .pre .0) (c .before .pre .1)))

@@ -2,10 +2,6 @@ use Rattle.parts.proofs.Base.{needs, popped}
 use Rattle.parts.proofs.queue.pop.Statement.{statement}
 use Rattle.parts.proofs.queue.pop.Tie as tie
 
-returns : tie.Need-returns
-returns c =
-    let s = c .before .before in
-    rw (c .cut-waiters .ensures) (popped (s .args .q) (s .pre .0) (s .pre .1))
-
 pub pop-spec : {M : Type 1} → statement M
-pop-spec = tie.close (tie.spec (λ c. search needs) (λ c κs. search needs) (λ c. search needs) returns)
+pop-spec = tie.close (tie.spec (search needs) (search needs) (search needs)
+    (λ c. let s = c .before .before in rw (c .cut-waiters .ensures) (popped (s .args .q) (s .pre .0) (s .pre .1))))

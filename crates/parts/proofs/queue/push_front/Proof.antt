@@ -2,10 +2,6 @@ use Rattle.parts.proofs.Base.{needs, fronted}
 use Rattle.parts.proofs.queue.push_front.Statement.{statement}
 use Rattle.parts.proofs.queue.push_front.Tie as tie
 
-returns : tie.Need-returns
-returns c =
-    let s = c .before .before in
-    rw (c .slide-waiters .ensures) (fronted (s .args .q) (s .args .w) (s .pre .0) (s .pre .1))
-
 pub push-front-spec : {M : Type 1} → statement M
-push-front-spec = tie.close (tie.spec (λ c. search needs) (λ c κs. search needs) (λ c. search needs) returns)
+push-front-spec = tie.close (tie.spec (search needs) (search needs) (search needs)
+    (λ c. let s = c .before .before in rw (c .slide-waiters .ensures) (fronted (s .args .q) (s .args .w) (s .pre .0) (s .pre .1))))

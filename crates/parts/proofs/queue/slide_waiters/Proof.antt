@@ -20,4 +20,5 @@ returns c =
     slid-last (l .b) (c .before .before .args .w) (omega arith) ∙ rw e at (l .inv .0)
 
 pub slide-waiters-spec : {M : Type 1} → statement M
-slide-waiters-spec = tie.close (tie.spec Inv-loop μ-loop (λ c. search needs) (λ c. search needs) (λ c. search needs) (λ c. search needs) (λ c. search needs) (λ c. search needs) (λ c. search needs) (λ c. search needs) loop-again (λ c. search needs) returns)
+slide-waiters-spec = tie.close (tie.spec Inv-loop μ-loop (λ c. search needs) (search needs) (search needs) (search needs) (search needs) (search needs)
+    (search needs) (search needs) loop-again (search needs) returns)

@@ -30,4 +30,4 @@ returns-2 c =
     sym (used-none (isClient (s .c)) (s .t1) (s .n) (c .before .loop .j) blankWaiter (omega arith) (omega arith)) ∙ c .before .loop .inv .0
 
 pub waiting-in-spec : {M : Type 1} → statement M
-waiting-in-spec = tie.close (tie.spec Inv-loop μ-loop (λ c. search needs) (λ c. search needs) (λ c. search needs) returns (λ c. search needs) (λ c. search needs) loop-again returns-2)
+waiting-in-spec = tie.close (tie.spec Inv-loop μ-loop (search needs) (search needs) (search needs) returns (search needs) (search needs) loop-again returns-2)

@@ -15,4 +15,4 @@ returns-2 c =
     c .no-agent .ensures ∙ sym (List·getD-eq-default (s .t1) noAgent (omega arith))
 
 pub agent-at-spec : {M : Type 1} → statement M
-agent-at-spec = tie.close (tie.spec (λ c. search needs) (λ c. search needs) (λ c. search needs) (λ c κs. search needs) returns returns-2)
+agent-at-spec = tie.close (tie.spec (search needs) (search needs) (search needs) (search needs) returns returns-2)

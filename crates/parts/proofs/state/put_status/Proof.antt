@@ -2,11 +2,6 @@ use Rattle.parts.proofs.Base.{_≡_, sym, arith, length, set-out, needs
 use Rattle.parts.proofs.state.put_status.Statement.{statement}
 use Rattle.parts.proofs.state.put_status.Tie as tie
 
-returns-2 : tie.Need-returns-2
-returns-2 c =
-    let s = c .before .before .args in
-    let n : length (s .a) ≡ clients = search needs in
-    sym (set-out (s .a) (s .c .0) _ (omega arith))
-
 pub put-status-spec : {M : Type 1} → statement M
-put-status-spec = tie.close (tie.spec (λ c. search needs) (λ c. search needs) (λ c. search needs) (λ c. search needs) returns-2)
+put-status-spec = tie.close (tie.spec (search needs) (search needs) (search needs) (search needs)
+    (λ c. let s = c .before .before .args in let n : length (s .a) ≡ clients = search needs in sym (set-out (s .a) (s .c .0) _ (omega arith))))

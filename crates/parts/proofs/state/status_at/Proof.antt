@@ -9,4 +9,4 @@ returns-2 c =
     sym (ap (λ (x : ClientState). x .status) (List·getD-eq-default (s .t1) idle (omega arith)))
 
 pub status-at-spec : {M : Type 1} → statement M
-status-at-spec = tie.close (tie.spec (λ c. search needs) (λ c. search needs) (λ c. search needs) (λ c. search needs) returns-2)
+status-at-spec = tie.close (tie.spec (search needs) (search needs) (search needs) (search needs) returns-2)

@@ -2,11 +2,5 @@ use Rattle.parts.proofs.Base.{sym, needs, lt-leb, le-leb, pick-yes, pic
 use Rattle.parts.proofs.wire.left_of.Statement.{statement}
 use Rattle.parts.proofs.wire.left_of.Tie as tie
 
-returns : tie.Need-returns
-returns c = sym (pick-no _ (lt-leb _ _ (c .if1 .taken)))
-
-returns-2 : tie.Need-returns-2
-returns-2 c = sym (pick-yes _ (le-leb _ _ (c .if1 .left)))
-
 pub left-of-spec : {M : Type 1} → statement M
-left-of-spec = tie.close (tie.spec (λ c. search needs) returns returns-2)
+left-of-spec = tie.close (tie.spec (search needs) (λ c. sym (pick-no _ (lt-leb _ _ (c .if1 .taken)))) (λ c. sym (pick-yes _ (le-leb _ _ (c .if1 .left)))))

@@ -20,8 +20,10 @@ loop-again : tie.Need-loop-again Inv-loop μ-loop
 loop-again c =
     let s = c .before .before .before .before .before .args in
     let l = c .before .before .before .before .loop in
-    let n : length (s .t1) ≡ wireCapacity = search needs in
-    (used-miss (names (s .c)) (s .t1) (s .n) (l .j) _ (omega arith) (omega arith) (sym (c .before .message-names .ensures) ∙ c .if1 .left) ∙ l .inv .0, omega arith)
+    let n : length (s .t1) ≡ wireCapacity = search needs in (
+      used-miss (names (s .c)) (s .t1) (s .n) (l .j) _ (omega arith) (omega arith) (sym (c .before .message-names .ensures) ∙ c .if1 .left) ∙ l .inv .0,
+      omega arith,
+    )
 
 returns-2 : tie.Need-returns-2 Inv-loop μ-loop
 returns-2 c =
@@ -30,4 +32,5 @@ returns-2 c =
     sym (used-none (names (s .c)) (s .t1) (s .n) (c .before .loop .j) blankPacket (omega arith) (omega arith)) ∙ c .before .loop .inv .0
 
 pub names-any-spec : {M : Type 1} → statement M
-names-any-spec = tie.close (tie.spec Inv-loop μ-loop (λ c. search needs) (λ c. search needs) (λ c. search needs) (λ c κs. search needs) returns (λ c. search needs) (λ c. search needs) loop-again returns-2)
+names-any-spec = tie.close (tie.spec Inv-loop μ-loop (search needs) (search needs) (search needs) (search needs) returns (search needs) (search needs)
+    loop-again returns-2)

@@ -3,11 +3,6 @@ use borrow.Author.Needs.{needs}
 use Rattle.random_runs.proofs.choice.passed.Statement.{statement}
 use Rattle.random_runs.proofs.choice.passed.Tie as tie
 
-abbrev Inv-loop : tie.InvT-loop
-Inv-loop p first w n i₀ i = Unit
-
-abbrev μ-loop : tie.MeasureT-loop
-μ-loop p first w n i₀ i = n - i
-
 pub passed-spec : {M : Type 1} → statement M
-passed-spec = tie.close (tie.spec Inv-loop μ-loop (λ c. search needs) (λ c. search needs) (λ c. search needs) (λ c. search needs) (λ c. search needs) (λ c. search needs) (λ c κs. search needs) (λ c. search needs) (λ c. search needs) (λ c. search needs) (λ c. search needs) (λ c. search needs))
+passed-spec = tie.close (tie.spec (λ _ _ _ _ _ _. Unit) (λ _ _ _ n _ i. n - i) (search needs) (search needs) (search needs) (search needs) (search needs)
+    (search needs) (search needs) (search needs) (search needs) (search needs) (search needs) (search needs))

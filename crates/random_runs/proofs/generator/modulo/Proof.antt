@@ -4,11 +4,5 @@ use borrow.Author.Needs.{needs}
 use Rattle.random_runs.proofs.generator.modulo.Statement.{statement}
 use Rattle.random_runs.proofs.generator.modulo.Tie as tie
 
-cast-result : tie.Need-cast-result
-cast-result c = omega (arith, mod-lt (c .args .x) (c .pre .0))
-
-returns : tie.Need-returns
-returns c = mod-lt (c .args .x) (c .pre .0)
-
 pub modulo-spec : {M : Type 1} → statement M
-modulo-spec = tie.close (tie.spec (λ c. search needs) cast-result returns)
+modulo-spec = tie.close (tie.spec (λ c. search needs) (λ c. omega (arith, mod-lt (c .args .x) (c .pre .0))) (λ c. mod-lt (c .args .x) (c .pre .0)))

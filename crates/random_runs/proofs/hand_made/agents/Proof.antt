@@ -4,11 +4,6 @@ use Rattle.model.specs.States.{machines}
 use Rattle.random_runs.proofs.hand_made.agents.Statement.{statement}
 use Rattle.random_runs.proofs.hand_made.agents.Tie as tie
 
-abbrev Inv-loop : tie.InvT-loop
-Inv-loop s₀ o f slots₀ k₀ s slots k = Unit
-
-abbrev μ-loop : tie.MeasureT-loop
-μ-loop s₀ o f slots₀ k₀ s slots k = machines - k
-
 pub agents-spec : {M : Type 1} → statement M
-agents-spec = tie.close (tie.spec Inv-loop μ-loop (λ c κs. search needs) (λ c. search needs) (λ c. search needs) (λ c κs. search needs) (λ c. search needs) (λ c. search needs) (λ c. search needs) (λ c. search needs) (λ c. search needs) (λ c. search needs) (λ c. search needs))
+agents-spec = tie.close (tie.spec (λ _ _ _ _ _ _ _ _. Unit) (λ _ _ _ _ _ _ _ k. machines - k) (search needs) (search needs) (search needs) (search needs)
+    (search needs) (search needs) (search needs) (search needs) (search needs) (search needs) (search needs))

@@ -3,11 +3,6 @@ use borrow.Author.Needs.{needs}
 use Rattle.random_runs.proofs.hand_made.packets.Statement.{statement}
 use Rattle.random_runs.proofs.hand_made.packets.Tie as tie
 
-abbrev Inv-loop : tie.InvT-loop
-Inv-loop s₀ n f slots₀ i₀ s slots i = Unit
-
-abbrev μ-loop : tie.MeasureT-loop
-μ-loop s₀ n f slots₀ i₀ s slots i = n - i
-
 pub packets-spec : {M : Type 1} → statement M
-packets-spec = tie.close (tie.spec Inv-loop μ-loop (λ c κs. search needs) (λ c. search needs) (λ c. search needs) (λ c κs. search needs) (λ c κs. search needs) (λ c. search needs) (λ c. search needs) (λ c. search needs) (λ c. search needs) (λ c. search needs) (λ c. search needs) (λ c. search needs))
+packets-spec = tie.close (tie.spec (λ _ _ _ _ _ _ _ _. Unit) (λ _ n _ _ _ _ _ i. n - i) (search needs) (search needs) (search needs) (search needs)
+    (search needs) (search needs) (search needs) (search needs) (search needs) (search needs) (search needs) (search needs))

@@ -4,11 +4,14 @@ use Rattle.rules.proofs.asking.ask_agent.Tie as tie
 
 returns : tie.Need-returns
 unfolding clientAsks
-returns c = rw (c .doing .ensures, c .before .no-packet .ensures, c .before .before .with-slot .ensures, c .before .before .before .with-status .ensures, c .before .before .before .before .some-agent .ensures, c .before .before .before .before .before .join .ensures, ← c .before .before .before .before .before .before .before .may-join .ensures, c .before .before .before .before .before .before .if1 .taken)
-
-returns-2 : tie.Need-returns-2
-unfolding clientAsks
-returns-2 c = rw (c .queue-last .ensures, c .before .with-status2 .ensures, ← c .before .before .before .may-join .ensures, c .before .before .if1 .left)
+returns c =
+    let d = c .before .before .before in
+    let b = d .before .before .before in
+    rw (c .doing .ensures, c .before .no-packet .ensures, c .before .before .with-slot .ensures, d .with-status .ensures, d .before .some-agent .ensures)
+    (rw (d .before .before .join .ensures, ← b .before .may-join .ensures, b .if1 .taken))
 
 pub ask-agent-spec : {M : Type 1} → statement M
-ask-agent-spec = tie.close (tie.spec (λ c κs. search needs) (λ c κs. search needs) (λ c κs. search needs) (λ c κs. search needs) (λ c κs. search needs) (λ c κs. search needs) (λ c κs. search needs) (λ c κs. search needs) (λ c κs. search needs) returns returns-2)
+unfolding clientAsks
+ask-agent-spec = tie.close (tie.spec (search needs) (search needs) (search needs) (search needs) (search needs) (search needs) (search needs) (search needs)
+    (λ c κs. search needs) returns
+    (λ c. rw (c .queue-last .ensures, c .before .with-status2 .ensures, ← c .before .before .before .may-join .ensures, c .before .before .if1 .left)))

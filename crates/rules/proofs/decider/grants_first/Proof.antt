@@ -2,8 +2,5 @@ use Rattle.rules.proofs.Base.{needs}
 use Rattle.rules.proofs.decider.grants_first.Statement.{statement}
 use Rattle.rules.proofs.decider.grants_first.Tie as tie
 
-returns : tie.Need-returns
-returns c = rw (c .grants-with .ensures, c .before .new-agent .ensures)
-
 pub grants-first-spec : {M : Type 1} → statement M
-grants-first-spec = tie.close (tie.spec (λ c κs. search needs) (λ c κs. search needs) returns)
+grants-first-spec = tie.close (tie.spec (search needs) (search needs) (λ c. rw (c .grants-with .ensures, c .before .new-agent .ensures)))

@@ -8,10 +8,6 @@ returns c =
     rw (c .carrying .ensures, c .before .before .pop .ensures, c .before .before .before .first .ensures)
     (hands-on (s .args .a) (s .args .hs) (s .pre) (omega arith))
 
-returns-2 : tie.Need-returns-2
-returns-2 c =
-    let s = c .before .before .before .before in
-    rw (c .carrying2 .ensures) (frees (s .args .a) (s .args .hs) (s .pre) (omega arith))
-
 pub hand-over-spec : {M : Type 1} → statement M
-hand-over-spec = tie.close (tie.spec (λ c κs. search needs) (λ c κs. search needs) (λ c κs. search needs) (λ c κs. search needs) returns returns-2)
+hand-over-spec = tie.close (tie.spec (λ c κs. search needs) (λ c κs. search needs) (search needs) (search needs) returns
+    (λ c. let s = c .before .before .before .before in rw (c .carrying2 .ensures) (frees (s .args .a) (s .args .hs) (s .pre) (omega arith))))

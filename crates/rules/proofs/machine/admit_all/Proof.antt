@@ -21,7 +21,7 @@ loop-again c =
     let n : length (s .t2) ≡ queueCapacity = search needs in
     let o = used-more (s .t2) (s .n) (l .j) blankWaiter (omega arith) (omega arith) in
     let m : s .n - l .j ≡ 1 + (s .n - (l .j + 1)) = omega arith in
-    (rw (c .admit .ensures) (admits-next (l .t) _ _ ∙ rw o at (l .inv .0)), (rw (c .admit .ensures) (room-next (l .t) _ _ (rw m at (l .inv .1 .0))), omega arith))
+    rw (c .admit .ensures) (admits-next (l .t) _ _ ∙ rw o at (l .inv .0), (room-next (l .t) _ _ (rw m at (l .inv .1 .0)), omega arith))
 
 returns : tie.Need-returns Inv-loop μ-loop
 returns c =
@@ -32,4 +32,5 @@ returns c =
     sym (admits-none (l .t) (rw m at (l .inv .1 .0))) ∙ rw (used-end (s .t2) (s .n) (l .j) blankWaiter (omega arith) (omega arith)) at (l .inv .0)
 
 pub admit-all-spec : {M : Type 1} → statement M
-admit-all-spec = tie.close (tie.spec Inv-loop μ-loop loop-holds (λ c. search needs) (λ c. search needs) (λ c κs. search needs) (λ c. search needs) (λ c. search needs) loop-again returns)
+admit-all-spec = tie.close (tie.spec Inv-loop μ-loop loop-holds (search needs) (search needs) (λ c κs. search needs) (search needs) (search needs) loop-again
+    returns)

@@ -2,14 +2,16 @@ use Rattle.rules.proofs.Base.{sym, _∙_, needs, room-left}
 use Rattle.rules.proofs.machine.queue_first.Statement.{statement}
 use Rattle.rules.proofs.machine.queue_first.Tie as tie
 
-push-front-requires : tie.Need-push-front-requires
-push-front-requires c κs = (c .before .before .pre, room-left (c .before .before .args .a) (c .before .before .args .c) (c .before .before .pre) (sym (c .before .no-room .ensures) ∙ c .if1 .left))
-
-returns : tie.Need-returns
-returns c = rw (c .cannot-place .ensures, ← c .before .before .no-room .ensures, c .before .if1 .taken)
-
 returns-2 : tie.Need-returns-2
-returns-2 c = rw (c .doing .ensures, c .before .no-packet .ensures, c .before .before .with-slot .ensures, c .before .before .before .some-agent .ensures, c .before .before .before .before .push-front .ensures, ← c .before .before .before .before .before .before .no-room .ensures, c .before .before .before .before .before .if1 .left)
+returns-2 c =
+    let d = c .before .before .before in
+    let b = d .before .before in
+    rw (c .doing .ensures, c .before .no-packet .ensures, c .before .before .with-slot .ensures, d .some-agent .ensures, d .before .push-front .ensures)
+    (rw (← b .before .no-room .ensures, b .if1 .left))
 
 pub queue-first-spec : {M : Type 1} → statement M
-queue-first-spec = tie.close (tie.spec (λ c κs. search needs) (λ c κs. search needs) push-front-requires (λ c κs. search needs) (λ c κs. search needs) (λ c κs. search needs) (λ c κs. search needs) returns returns-2)
+queue-first-spec = tie.close (tie.spec (λ c κs. search needs) (search needs)
+    (λ c κs. let s = c .before .before in (s .pre, room-left (s .args .a) (s .args .c) (s .pre) (sym (c .before .no-room .ensures) ∙ c .if1 .left)))
+    (search needs) (search needs) (search needs) (search needs)
+    (λ c. rw (c .cannot-place .ensures, ← c .before .before .no-room .ensures, c .before .if1 .taken))
+    returns-2)

@@ -2,8 +2,6 @@ use Rattle.rules.proofs.Base.{needs}
 use Rattle.rules.proofs.plan.apply.Statement.{statement}
 use Rattle.rules.proofs.plan.apply.Tie as tie
 
-returns : tie.Need-returns
-returns c = rw (← c .post .ensures, ← c .before .put-status .ensures, ← c .before .before .put-agent .ensures)
-
 pub apply-spec : {M : Type 1} → statement M
-apply-spec = tie.close (tie.spec (λ c κs. search needs) (λ c κs. search needs) (λ c κs. search needs) returns)
+apply-spec = tie.close (tie.spec (search needs) (search needs) (λ c κs. search needs)
+    (λ c. rw (← c .post .ensures, ← c .before .put-status .ensures, ← c .before .before .put-agent .ensures)))

@@ -2,15 +2,12 @@ use Rattle.rules.proofs.Base.{[], _∷_, arith, take, needs, waiters, s
 use Rattle.rules.proofs.plan.post.Statement.{statement}
 use Rattle.rules.proofs.plan.post.Tie as tie
 
-write-packets-requires : tie.Need-write-packets-requires
-write-packets-requires c κs =
-    let s = c .before .before .before .before .before in
-    omega (arith, s .pre .1, sent-length (s .args .t))
-
 write-grants-requires : tie.Need-write-grants-requires
 write-grants-requires c κs =
-    let s = c .before .before .before .before .before .before in
-    (c .before .of-slots .ensures .0, omega (arith, s .pre .1, sent-length (s .args .t), c .before .of-slots .ensures .1, c .before .before .of-two .ensures .1 (s .args .t .first) (s .args .t .second)))
+    let b = c .before in
+    let s = b .before .before .before .before .before in
+    let t = s .args .t in
+    (b .of-slots .ensures .0, omega (arith, s .pre .1, sent-length t, b .of-slots .ensures .1, b .before .of-two .ensures .1 (t .first) (t .second)))
 
 returns : tie.Need-returns
 unfolding sentBy waiters
@@ -19,7 +16,10 @@ returns c =
     let s = b .before .before .before .before in
     let t = s .args .t in
     rw (c .write-grants .ensures, c .before .write-packets .ensures)
-    (posted-both (s .args .w) (take (t .count) (t .first ∷ t .second ∷ [])) (t .admitted .slots) (t .admitted .len) _ _ (s .pre .0) (s .pre .1) (b .of-two .ensures .1 (t .first) (t .second)) (c .before .before .of-slots .ensures .1))
+    (posted-both (s .args .w) (take (t .count) (t .first ∷ t .second ∷ [])) (t .admitted .slots) (t .admitted .len) _ _ (s .pre .0) (s .pre .1)
+    (b .of-two .ensures .1 (t .first) (t .second)) (c .before .before .of-slots .ensures .1))
 
 pub post-spec : {M : Type 1} → statement M
-post-spec = tie.close (tie.spec (λ c κs. search needs) (λ c κs. search needs) (λ c. search needs) write-packets-requires (λ c. search needs) (λ c. search needs) (λ c. search needs) write-grants-requires (λ c. search needs) (λ c. search needs) returns)
+post-spec = tie.close (tie.spec (search needs) (search needs) (search needs)
+    (λ c κs. let s = c .before .before .before .before .before in omega (arith, s .pre .1, sent-length (s .args .t)))
+    (search needs) (search needs) (search needs) write-grants-requires (search needs) (search needs) returns)

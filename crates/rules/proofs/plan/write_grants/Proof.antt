@@ -34,4 +34,5 @@ returns c =
     rw (used-end (s .t3) (s .m) (l .j) blankWaiter (omega arith) (omega arith)) at (l .inv .0)
 
 pub write-grants-spec : {M : Type 1} → statement M
-write-grants-spec = tie.close (tie.spec Inv-loop μ-loop loop-holds (λ c. search needs) (λ c. search needs) (λ c κs. search needs) (λ c. search needs) (λ c. search needs) (λ c. search needs) (λ c. search needs) (λ c. search needs) loop-again returns)
+write-grants-spec = tie.close (tie.spec Inv-loop μ-loop loop-holds (search needs) (search needs) (search needs) (search needs) (search needs) (search needs)
+    (search needs) (search needs) loop-again returns)

@@ -2,16 +2,6 @@ use Rattle.rules.proofs.Base.{_∙_, [], _∷_, ⊎-elim, arith, needs,
 use Rattle.rules.proofs.plan.write_packets.Statement.{statement}
 use Rattle.rules.proofs.plan.write_packets.Tie as tie
 
-array-set-from-b : tie.Need-array-set-from-b
-array-set-from-b c =
-    let s = c .before in
-    omega (arith, some-of-two (s .args .k) (omega arith) (s .args .p) (s .args .q), s .pre)
-
-array-set-from-b-2 : tie.Need-array-set-from-b-2
-array-set-from-b-2 c =
-    let s = c .before .before in
-    omega (arith, all-of-two (s .args .k) (omega arith) (s .args .p) (s .args .q), s .pre)
-
 returns : tie.Need-returns
 returns c =
     let s = c .before .before .args in
@@ -29,4 +19,8 @@ returns-2 c =
     (c .before .if1 .came)
 
 pub write-packets-spec : {M : Type 1} → statement M
-write-packets-spec = tie.close (tie.spec (λ c. search needs) array-set-from-b (λ c. search needs) (λ c. search needs) array-set-from-b-2 returns returns-2)
+write-packets-spec = tie.close (tie.spec (search needs)
+    (λ c. let s = c .before in omega (arith, some-of-two (s .args .k) (omega arith) (s .args .p) (s .args .q), s .pre))
+    (search needs) (search needs)
+    (λ c. let s = c .before .before in omega (arith, all-of-two (s .args .k) (omega arith) (s .args .p) (s .args .q), s .pre))
+    returns returns-2)

@@ -2,8 +2,5 @@ use Rattle.rules.proofs.Base.{needs}
 use Rattle.rules.proofs.site.site_of.Statement.{statement}
 use Rattle.rules.proofs.site.site_of.Tie as tie
 
-returns : tie.Need-returns
-returns c = rw (c .status-at .ensures, c .before .agent-at .ensures)
-
 pub site-of-spec : {M : Type 1} → statement M
-site-of-spec = tie.close (tie.spec (λ c κs. search needs) (λ c κs. search needs) returns)
+site-of-spec = tie.close (tie.spec (search needs) (search needs) (λ c. rw (c .status-at .ensures, c .before .agent-at .ensures)))

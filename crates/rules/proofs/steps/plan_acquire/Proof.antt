@@ -1,17 +1,15 @@
-use Rattle.rules.proofs.Base.{ap, _∙_, arith, length, needs, packets, acquireStep, length-packets, removed-none, wireCapacity}
+use Rattle.rules.proofs.Base.{needs, acquireStep, plans-call}
 use Rattle.rules.proofs.steps.plan_acquire.Statement.{statement}
 use Rattle.rules.proofs.steps.plan_acquire.Tie as tie
-
-acquire-requires : tie.Need-acquire-requires
-acquire-requires c κs = rw (c .site-of .ensures) (c .before .before .pre .agents _)
 
 returns : tie.Need-returns
 unfolding acquireStep
 returns c =
-    let s = c .before .before .before .before .args .s in
-    let h = c .before .before .before .before .pre .wire in
-    let g = removed-none (packets (s .wire)) wireCapacity (omega (arith, length-packets (s .wire) h, h .short)) in
-    rw (c .before .acquire .ensures, c .before .before .site-of .ensures, c .before .before .before .machine-of .ensures, g) at (c .plan-effect .ensures s (ap length g ∙ length-packets (s .wire) h))
+    let b = c .before .before .before in
+    rw (c .before .acquire .ensures, c .before .before .site-of .ensures, b .machine-of .ensures)
+    at (plans-call _ _ _ _ _ (b .before .pre .wire) (c .plan-effect .ensures (b .before .args .s)))
 
 pub plan-acquire-spec : {M : Type 1} → statement M
-plan-acquire-spec = tie.close (tie.spec (λ c κs. search needs) (λ c κs. search needs) acquire-requires (λ c κs. search needs) returns)
+plan-acquire-spec = tie.close (tie.spec (search needs) (search needs)
+    (λ c κs. rw (c .site-of .ensures) (c .before .before .pre .agents _))
+    (search needs) returns)

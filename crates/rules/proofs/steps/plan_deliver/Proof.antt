@@ -1,4 +1,4 @@
-use Rattle.rules.proofs.Base.{_≡_, _-_, _<_, arith, length, needs, packets, removed, takes, deliverStep, length-packets, length-removed}
+use Rattle.rules.proofs.Base.{_<_, arith, length, needs, packets, takes, deliverStep, length-packets, sized-less}
 use Rattle.rules.proofs.steps.plan_deliver.Statement.{statement}
 use Rattle.rules.proofs.steps.plan_deliver.Tie as tie
 
@@ -12,12 +12,14 @@ deliver-requires c κs =
 returns : tie.Need-returns
 unfolding deliverStep takes
 returns c =
-    let start = c .before .before .before .before .before .before .before in
-    let s = start .args .s in
-    let i = start .args .i in
-    let l = length-packets (s .wire) (start .pre .0 .wire) in
-    let e : length (removed (packets (s .wire)) i) ≡ s .wire .len - 1 = omega (arith, length-removed (packets (s .wire)) i (omega (arith, l, start .pre .1)), l) in
-    rw (c .before .before .deliver .ensures, c .before .before .before .site-of .ensures, c .before .before .before .before .client-named .ensures, c .before .before .before .before .before .machine-at .ensures, c .before .before .before .before .before .before .packet-at .ensures) at (c .plan-effect .ensures s e)
+    let b = c .before .before in
+    let d = b .before .before in
+    let s = d .before .before .before in
+    let w = s .args .s .wire in
+    let e = sized-less (packets w) (s .args .i) (w .len) (length-packets w (s .pre .0 .wire)) (s .pre .1) in
+    rw (b .deliver .ensures, b .before .site-of .ensures, d .client-named .ensures, d .before .machine-at .ensures, d .before .before .packet-at .ensures)
+    at (c .plan-effect .ensures (s .args .s) e)
 
 pub plan-deliver-spec : {M : Type 1} → statement M
-plan-deliver-spec = tie.close (tie.spec (λ c κs. search needs) (λ c κs. search needs) (λ c κs. search needs) (λ c κs. search needs) deliver-requires (λ c. search needs) (λ c κs. search needs) returns)
+plan-deliver-spec = tie.close (tie.spec (λ c κs. search needs) (search needs) (search needs) (search needs) deliver-requires (search needs) (search needs)
+    returns)

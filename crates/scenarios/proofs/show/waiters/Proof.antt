@@ -4,11 +4,6 @@ use Rattle.model.specs.States.{queueCapacity}
 use Rattle.scenarios.proofs.show.waiters.Statement.{statement}
 use Rattle.scenarios.proofs.show.waiters.Tie as tie
 
-abbrev Inv-loop : tie.InvT-loop
-Inv-loop n slots i₀ i = Unit
-
-abbrev μ-loop : tie.MeasureT-loop
-μ-loop n slots i₀ i = queueCapacity - i
-
 pub waiters-spec : {M : Type 1} → statement M
-waiters-spec = tie.close (tie.spec Inv-loop μ-loop (λ c. search needs) (λ c. search needs) (λ c. search needs) (λ c. search needs) (λ c κs. search needs) (λ c. search needs) (λ c. search needs) (λ c. search needs) (λ c. search needs))
+waiters-spec = tie.close (tie.spec (λ _ _ _ _. Unit) (λ _ _ _ i. queueCapacity - i) (search needs) (search needs) (search needs) (search needs) (search needs)
+    (search needs) (search needs) (search needs) (search needs))

@@ -18,47 +18,31 @@ returns-3 : tie.Need-returns-3
 unfolding readRecord
 returns-3 c =
     let e = c .before .before .before in
-    rw (lt-leb _ _ (e .before .before .if1 .left), le-ltb _ _ (e .before .if2 .left), ← e .short-at .ensures, c .before .before .match .keys1, c .whole-record .ensures, c .before .acquire-at .ensures)
+    rw (lt-leb _ _ (e .before .before .if1 .left), le-ltb _ _ (e .before .if2 .left), ← e .short-at .ensures)
+    (rw (c .before .before .match .keys1, c .whole-record .ensures, c .before .acquire-at .ensures))
 
 returns-4 : tie.Need-returns-4
 unfolding readRecord
 returns-4 c =
     let e = c .before .before .before in
-    rw (lt-leb _ _ (e .before .before .if1 .left), le-ltb _ _ (e .before .if2 .left), ← e .short-at .ensures, c .before .before .match .keys2, c .whole-record2 .ensures, c .before .release-at .ensures)
+    rw (lt-leb _ _ (e .before .before .if1 .left), le-ltb _ _ (e .before .if2 .left), ← e .short-at .ensures)
+    (rw (c .before .before .match .keys2, c .whole-record2 .ensures, c .before .release-at .ensures))
 
 returns-5 : tie.Need-returns-5
 unfolding readRecord
 returns-5 c =
     let e = c .before .before .before in
-    rw (lt-leb _ _ (e .before .before .if1 .left), le-ltb _ _ (e .before .if2 .left), ← e .short-at .ensures, c .before .before .match .keys3, c .whole-record3 .ensures, c .before .deliver-at .ensures)
+    rw (lt-leb _ _ (e .before .before .if1 .left), le-ltb _ _ (e .before .if2 .left), ← e .short-at .ensures)
+    (rw (c .before .before .match .keys3, c .whole-record3 .ensures, c .before .deliver-at .ensures))
 
 returns-6 : tie.Need-returns-6
 unfolding readRecord
 returns-6 c =
     let e = c .before in
-    rw (
-      lt-leb _ _ (e .before .before .if1 .left),
-      le-ltb _ _ (e .before .if2 .left),
-      ← e .short-at .ensures,
-      ne-eqb _ _ (c .match .rest .0 .0 .1),
-      ne-eqb _ _ (c .match .rest .0 .1),
-      ne-eqb _ _ (c .match .rest .1),
-    )
+    rw (lt-leb _ _ (e .before .before .if1 .left), le-ltb _ _ (e .before .if2 .left), ← e .short-at .ensures)
+    (rw (ne-eqb _ _ (c .match .rest .0 .0 .1), ne-eqb _ _ (c .match .rest .0 .1), ne-eqb _ _ (c .match .rest .1)))
 
 pub read-record-spec : {M : Type 1} → statement M
-read-record-spec = tie.close (tie.spec
-    returns
-    (λ c. search needs)
-    returns-2
-    (λ c. search needs)
-    (λ c κs. search needs)
-    (λ c κs. search needs)
-    (λ c κs. search needs)
-    (λ c κs. search needs)
-    (λ c κs. search needs)
-    (λ c κs. search needs)
-    (λ c κs. search needs)
-    returns-3
-    returns-4
-    returns-5
-    returns-6)
+read-record-spec = tie.close (tie.spec returns (λ c. search needs) returns-2 (λ c. search needs)
+    (λ c κs. search needs) (λ c κs. search needs) (λ c κs. search needs) (λ c κs. search needs) (λ c κs. search needs) (λ c κs. search needs)
+    (λ c κs. search needs) returns-3 returns-4 returns-5 returns-6)

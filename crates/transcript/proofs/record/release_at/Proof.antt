@@ -7,5 +7,5 @@ returns : tie.Need-returns
 returns c = rw (c .before .before .byte-at .ensures, c .before .byte-at2 .ensures, c .byte-at3 .ensures)
 
 pub release-at-spec : {M : Type 1} → statement M
-release-at-spec =
-    tie.close (tie.spec (λ c. search needs) (λ c κs. search needs) (λ c. search needs) (λ c κs. search needs) (λ c. search needs) (λ c κs. search needs) returns)
+release-at-spec = tie.close (tie.spec (λ c. search needs) (λ c κs. search needs) (λ c. search needs) (λ c κs. search needs)
+    (λ c. search needs) (λ c κs. search needs) returns)

@@ -14,7 +14,9 @@ returns : tie.Need-returns
 returns c = rw (← c .before .before .short-at .ensures, eq-eqb _ _ (c .before .if1 .taken), c .if2 .taken)
 
 returns-2 : tie.Need-returns-2
-returns-2 c = ⊎-elim (λ w. rw (← c .before .short-at .ensures, eq-eqb _ _ (w .0 .taken), w .1 .left)) (λ w. rw (← c .before .short-at .ensures, ne-eqb _ _ (w .left))) (c .if1 .came)
+returns-2 c =
+    let e = c .before .short-at .ensures in
+    ⊎-elim (λ w. rw (← e, eq-eqb _ _ (w .0 .taken), w .1 .left)) (λ w. rw (← e, ne-eqb _ _ (w .left))) (c .if1 .came)
 
 pub whole-record-spec : {M : Type 1} → statement M
 whole-record-spec = tie.close (tie.spec (λ c κs. search needs) (λ c. search needs) add-next returns returns-2)

@@ -3,11 +3,6 @@ use borrow.Author.Needs.{needs}
 use Rattle.random_runs.proofs.line.Line.text.Statement.{statement}
 use Rattle.random_runs.proofs.line.Line.text.Tie as tie
 
-abbrev Inv-loop : tie.InvT-loop
-Inv-loop s l₀ i₀ i-end l i = Unit
-
-abbrev μ-loop : tie.MeasureT-loop
-μ-loop s l₀ i₀ i-end l i = i-end - i
-
 pub text-spec : {M : Type 1} → statement M
-text-spec = tie.close (tie.spec Inv-loop μ-loop (λ c. search needs) (λ c. search needs) (λ c κs. search needs) (λ c. search needs) (λ c. search needs) (λ c. search needs) (λ c. search needs))
+text-spec = tie.close (tie.spec (λ _ _ _ _ _ _. Unit) (λ _ _ _ i-end _ i. i-end - i) (search needs) (search needs) (search needs) (search needs) (search needs)
+    (search needs) (search needs))

@@ -1,69 +1,26 @@
--- `reader::Reader::advanced` meets its contract: a walk of its MIR, by hand. A reader is made anew of the slice that the one passed holds, and another number.
--- The struct is Copy: what it owns is had twice, one copy is kept whole for the exit, and the other, with the facts of the number in the place of at's, is what the result owns.
--- Assumes nothing.
-use denote.Struct.Laws as LL
-use Rattle.transcript.proofs.reader.Walk.{refl, ℕ, _<_, _^_, [], _∷_, Holds, URA, named, w64, Val, WT, hasTy, vint, SProp, ent, emp, via, fst∗, Lft}
-use Rattle.transcript.proofs.reader.Walk.{Share, Fml, ftrue, flft, Memory, Routine, Heap, Calls, Loops, WpFn, Tables, Atoms, Fun, givenOf, tables}
-use Rattle.transcript.proofs.reader.Walk.{tablesOf, Given, ‵, _⊛_, _$_, _∵_, !, qed, by, move, use1, split, fsplit, fjoin, suffices, frame, whole, sub}
-use Rattle.transcript.proofs.reader.Walk.{look-in, agg, look, init, forget, stop, fld, from, load, of-opd, and-then, no-more, assigns, returns, enter}
-use Rattle.transcript.proofs.reader.Walk.{alloc1, alloc0, params1, pass1, pass0, free1, free0, WpFn-mono, owns, Is, uint-vals, uint-tells, uint-makes}
-use Rattle.transcript.proofs.reader.Walk.{usize, namedLft, owned, own-put, Vals, onEntry, Meets, tripleOf, entered, says, Stays, stay-none, walkOf}
-use Rattle.transcript.proofs.reader.Walk.{goes-none, Walks, ends-at, walked, walk-meets, yes, Reader, D, B, L}
-use Rattle.transcript.proofs.reader.Reader.Laws as T′
-use Rattle.transcript.proofs.reader.Reader.advanced.Key.{name as #advanced}
-use Rattle.transcript.proofs.reader.Reader.advanced as advanced
-use Rattle.transcript.proofs.reader.Reader.advanced.Statement as stated
+-- `reader::Reader::advanced` meets its contract: a walk of its MIR, by hand. A reader is made of the bytes of the one passed and a number. Assumes nothing.
+use Rattle.transcript.proofs.reader.Walk as kit
+use kit.{refl, [], _∷_, ‵, _$_, !, move, drop, use2, fsplit, own-put, whole, sub, look-in, agg, look, init, forget, stop, fld, from}
+use kit.{load, of-opd, and-then, no-more, assigns, returns, alloc1, alloc0, params1, pass1, pass0, free1, free0}
+use kit.{fields, D, B, L, Advanced, spelled, nothing, done, ends, walked, here, held}
+use Rattle.transcript.proofs.reader.Reader.Laws.{lowered}
+use Rattle.transcript.proofs.reader.Reader.advanced.Key.{name}
+use Rattle.transcript.proofs.reader.Reader.advanced.Statement.{statement}
 use Rattle.transcript.proofs.reader.Reader.advanced.Code as code
 
-abbrev stayed : Stays (advanced.ended .signature .params) (advanced.ended .kept)
-stayed = (stay-none B yes, (stay-none (λ _. usize) yes, tt))
-
-module _ {M : Type 1} (𝓤 : URA M) (H : Heap 𝓤) (A : Atoms 𝓤) (W : Given 𝓤 H A) (mem : Memory → SProp 𝓤) (run : Routine → Fun 𝓤) (κ : Lft) (q : Share) (d : Reader) (n : ℕ) (ok : n < 2 ^ 64) where
-  abbrev mach : Val
-  mach = T′.lowered d
-
-  abbrev d′ : Reader
-  d′ = record { bytes = d .bytes; at = n }
-
-  abbrev at : Vals advanced.signature (κ, tt)
-  at = (mach ∷ [], (vint w64 n ∷ [], tt))
-
-  abbrev Post : Val → SProp 𝓤
-  Post = walkOf 𝓤 H A advanced.ended stayed (advanced.clauses 𝓤 H A mem run) .post (((κ, tt), (q, tt), tt, (d, (n, tt)), at), tt)
-
-  abbrev Own : Fml
-  Own = B (κ, tt) .own d (mach ∷ [])
-
-  exits : ent 𝓤 (onEntry 𝓤 H A advanced.signature (κ, tt) (q, tt) (d, (n, tt)) at) (Post (T′.lowered d′))
-  exits =
-      qed W ((‵ (flft κ q) ⊛ ‵ ftrue) ∷ ‵ (owns (B (κ, tt) ∷ usize ∷ []) (d, (n, tt)) at) ∷ []) ∵
-      suffices ! _ (ends-at 𝓤 H A advanced.ended stayed (advanced.clauses 𝓤 H A mem run) W (((κ, tt), (q, tt), tt, (d, (n, tt)), at), tt) (T′.lowered d′) d′ (tt, (tt, tt)) (tt, (tt, tt))) $ says ! refl $
-      frame ! $ fsplit ! $ use1 W (‵ Own ⊛ ‵ Own) (LL.copy (D (κ, tt)) (T′.the-copy (namedLft 1 0 tt (κ, tt))) 𝓤 H A W .twice d (mach ∷ [])) $ split ! $ move ! (0 ∷ 2 ∷ []) $ fjoin ! $ frame ! $
-      -- [what the struct owns]: the number's facts take the place of at's
-      owned ! usize (Is usize) (uint-makes 𝓤 H A W w64) n _ (refl, ok) $ move ! (1 ∷ 0 ∷ []) $ by ! (own-put 𝓤 H A W (D (κ, tt)) (L (κ, tt)) 1 (d .bytes, (d .at, tt)) n mach)
-
-  module _ (C : Calls 𝓤 H) (Λ : Loops 𝓤 H) where
-    walk : Holds (hasTy (T′.mir (named 0)) mach) × WT mach → ent 𝓤 (onEntry 𝓤 H A advanced.signature (κ, tt) (q, tt) (d, (n, tt)) at) (WpFn 𝓤 H C Λ code.function (mach ∷ vint w64 n ∷ []) Post)
-    walk wt =
-        qed W ((‵ (flft κ q) ⊛ ‵ ftrue) ∷ ‵ (owns (B (κ, tt) ∷ usize ∷ []) (d, (n, tt)) at) ∷ []) ∵ enter ! C Λ code.function (mach ∷ vint w64 n ∷ []) _ $
-        alloc1 ! (λ l₀. alloc1 ! (λ l₁. alloc1 ! (λ l₂. alloc1 ! (λ l₃. alloc0 ! $ params1 ! $ pass1 ! (init ! 4 refl wt) $ pass1 ! (init ! 2 refl (tt, record { fits = ok })) $ pass0 ! $
-        assigns ! (of-opd ! (load ! (from ! (fld ! refl (stop !))) (look-in ! 4 (sub ! 0 refl (whole !))))) (from ! (stop !)) (init ! 0 refl (tt, wt .1 .0)) $
-        assigns ! (agg ! (and-then ! (load ! (from ! (stop !)) (look ! 0 refl)) (and-then ! (load ! (from ! (stop !)) (look ! 2 refl)) (no-more !)))) (from ! (stop !)) (init ! 6 refl (tt, (wt .1 .0, (record { fits = ok }, tt)))) $
-        returns ! (look ! 6 refl) $ forget ! 0 refl $ forget ! 2 refl $ forget ! 4 refl $ forget ! 6 refl $
-        move ! (6 ∷ 7 ∷ []) $ free1 ! $ move ! (4 ∷ 5 ∷ []) $ free1 ! $ move ! (2 ∷ 3 ∷ []) $ free1 ! $ free1 ! $ free0 ! $ by ! exits))))
-
-module _ {M : Type 1} (𝓤 : URA M) (H : Heap 𝓤) (A : Atoms 𝓤) (W : Given 𝓤 H A) (mem : Memory → SProp 𝓤) (run : Routine → Fun 𝓤) where
-  advanced-walks : (C : Calls 𝓤 H) (Λ : Loops 𝓤 H) → Walks 𝓤 H A advanced.ended stayed (WpFn 𝓤 H C Λ code.function) (advanced.clauses 𝓤 H A mem run)
-  advanced-walks C Λ = walked 𝓤 H A advanced.ended stayed (advanced.clauses 𝓤 H A mem run) (WpFn 𝓤 H C Λ code.function) (λ κs. (LL.vals (D κs) (L κs), (uint-vals w64, tt))) (λ κs. (LL.tells (D κs) (L κs), (uint-tells w64, tt)))
-      (λ κs qs bounds a g are. via 𝓤 _ (fst∗ 𝓤 _ (emp 𝓤)) (walk 𝓤 H A W mem run (κs .0) (qs .0) (a .0) (a .1 .0) (are .1 .0 .1) C Λ (LL.lawful (D κs) (L κs) 𝓤 H A W .typed (a .0) _ (are .0) .0)))
-
-advanced-meets : {M : Type 1} (𝓤 : URA M) (H : Heap 𝓤) (A : Atoms 𝓤) → Given 𝓤 H A → (mem : Memory → SProp 𝓤) (run : Routine → Fun 𝓤) (𝓣 : Tables 𝓤 H)
-    → Meets 𝓤 H A advanced.signature (WpFn 𝓤 H (𝓣 .C) (𝓣 .Λ) code.function) (advanced.spec 𝓤 H A mem run)
-advanced-meets 𝓤 H A W mem run 𝓣 = walk-meets 𝓤 H A advanced.ended stayed W (goes-none 𝓤 H A W 1 B yes (λ κs x f. refl), (goes-none 𝓤 H A W 1 (λ _. usize) yes (λ κs x f. refl), tt)) (advanced.clauses 𝓤 H A mem run) (WpFn 𝓤 H (𝓣 .C) (𝓣 .Λ) code.function) (WpFn-mono 𝓤 H (W .laws) 𝓣 code.function) (advanced-walks 𝓤 H A W mem run (𝓣 .C) (𝓣 .Λ))
-
-pub advanced-spec : {M : Type 1} → stated.statement M
-unfolding code.routine tablesOf
-advanced-spec 𝓤 H 𝓜 𝓖 𝓡 =
-    entered 𝓤 H (tripleOf 𝓤 H (𝓖 .A) advanced.signature (advanced.spec 𝓤 H (𝓖 .A) (𝓜 .mem) (𝓡 .run)))
-    (tables 𝓤 H 𝓜 𝓡 code.env .C) (tables 𝓤 H 𝓜 𝓡 code.env .Λ) #advanced code.function (code.unfolded 𝓤 H 𝓜 𝓡)
-    (advanced-meets 𝓤 H (𝓖 .A) (givenOf 𝓤 H 𝓜 𝓖) (𝓜 .mem) (𝓡 .run) (tablesOf 𝓤 H 𝓜 (tables 𝓤 H 𝓜 𝓡 code.env)))
+pub advanced-spec : {M : Type 1} → statement M
+unfolding code.routine
+advanced-spec 𝓤 H 𝓜 𝓖 𝓡 = walked 𝓤 H 𝓜 𝓖 𝓡 Advanced code.env name code.function (code.unfolded 𝓤 H 𝓜 𝓡) (λ W κs qs o a ts.
+    let d = a .0 in
+    let r = Advanced .value κs a in
+    alloc1 ! (λ l₀. alloc1 ! (λ l₁. alloc1 ! (λ l₂. alloc1 ! (λ l₃. alloc0 ! $ params1 ! $
+    pass1 ! (init ! 4 refl (ts .0)) $ pass1 ! (init ! 2 refl (ts .1 .0)) $ pass0 ! $
+    assigns ! (of-opd ! (load ! (from ! (fld ! refl (stop !))) (look-in ! 4 (sub ! 0 refl (whole !))))) (here !) (init ! 0 refl (tt, ts .0 .1 .0)) $
+    assigns ! (agg ! (and-then ! (held ! 0 refl) (and-then ! (held ! 2 refl) (no-more !)))) (here !)
+    (init ! 6 refl (tt, (ts .0 .1 .0, (ts .1 .0 .1, tt)))) $
+    returns ! (look ! 6 refl) $ forget ! 0 refl $ forget ! 2 refl $ forget ! 4 refl $ forget ! 6 refl $
+    move ! (6 ∷ 7 ∷ []) $ free1 ! $ move ! (4 ∷ 5 ∷ []) $ free1 ! $ move ! (2 ∷ 3 ∷ []) $ free1 ! $ free1 ! $ free0 ! $
+    -- [what the struct and the number own; the token]: the number's facts take the place of at's
+    fsplit ! $ move ! (1 ∷ []) $ fsplit ! $ move ! (1 ∷ []) $ drop ! $ move ! (1 ∷ 0 ∷ []) $
+    use2 W (‵ (B κs .own r (lowered r ∷ []))) (own-put 𝓤 H (𝓖 .A) W (D κs) (L κs) 1 (fields d) (a .1 .0) (lowered d)) $
+    ends W Advanced (spelled W Advanced κs qs o a) (lowered r) (tt, (tt, tt)) (nothing ! $ nothing ! $ nothing ! $ done !))))))
