@@ -118,7 +118,7 @@ fn release_all(start: Draining) -> Draining
     d
 }
 
-// Delivering hands over to releasing when the wire is empty.
+// With an empty wire it is the other phase's turn.
 fn deliver_phase(start: Draining) -> Draining
     requires { ⌜ Open start ⌝ }
     ensures { λ r. ⌜ ((l : LockId) → r ≡ drainOn l start) ⌝ }
@@ -127,7 +127,7 @@ fn deliver_phase(start: Draining) -> Draining
     if d.ended { d } else { release_phase(d) }
 }
 
-// And back, with fewer steps left.
+// With a packet on the wire again it is this one's, and fewer steps are left.
 fn release_phase(start: Draining) -> Draining
     requires { ⌜ (Open start) × (start .state .wire .len ≡ 0) ⌝ }
     ensures { λ r. ⌜ ((l : LockId) → r ≡ drainOn l start) ⌝ }

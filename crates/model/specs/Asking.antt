@@ -1,4 +1,5 @@
--- Asking and handing back (Figure 6).
+-- What a client's own calls do (document 01, "Asking and handing back"; Figure 6 of the source). An agent on the client's machine serves it there;
+-- else the decider is asked.
 use mathlib.Core.Bool.{Bool, true, false, _&&_, _||_}
 use mathlib.Core.List.{List, [], _∷_, _++_}
 use Prim.Native.Nat.{ℕ}
@@ -23,20 +24,19 @@ joining a c = changed a (set (a .holders) (c .0) true) (a .queue) (a .incarnatio
 abbrev pub queuing : Agent → ClientId → Mode → Agent
 queuing a c m = changed a (a .holders) (queueOf (waiters (a .queue) ++ record { client = c; mode = m } ∷ [])) (a .incarnation)
 
--- Cannot be placed: a client that would join, or go back to, a queue where it already stands or that holds 16.
+-- No room in the agent's queue: the client waits there already, or no slot is left.
 abbrev pub noRoom : Agent → ClientId → Bool
 noRoom a c = any (isClient c) (waiters (a .queue)) || leb queueCapacity (length (waiters (a .queue)))
 
 abbrev pub withRoom : Agent → ClientId → Verdict → Verdict
 withRoom a c w = pick (noRoom a c) cannot-place w
 
--- may a request join the holders of the site's agent: agent and request are both shared
+-- may a request join the holders of the site's agent: only a shared one, and only where the agent is shared too
 unfoldable pub mayJoin : Site → Mode → Bool
 mayJoin v m = isShared (v .slot .agent .mode) && isShared m
 
--- **Acquire.** With an agent on the client's own machine: if agent and request are both shared, the client joins the holders and
--- is holding at once; otherwise it joins the queue's end and is waiting. No packet is sent and no incarnation moves. With no such
--- agent: an unmarked ACQUIRE to the decider is sent; the client is waiting. The Bool: the agent a is there.
+-- A client acquires. At an agent it holds at once, if it may join, or queues up: no packet is sent, and the agent counts no grant. Without an agent
+-- here it sends its request to the decider. The Bool: the agent a is there.
 unfoldable pub clientAsks : Site → ClientId → Mode → Bool → Agent → Verdict
 clientAsks v c m true a =
     pick (mayJoin v m)
@@ -47,8 +47,7 @@ clientAsks v c m false a = does (withStatus v (Waiting m)) (plain (Acquire c m f
 unfoldable pub clientAcquires : Site → ClientId → Mode → Verdict
 clientAcquires v c m = clientAsks v c m (v .slot .present) (v .slot .agent)
 
--- **Leaves if empty.** If no holder remains, the agent is taken off its machine. With an empty queue it goes inside a FREE to the
--- decider. Otherwise the first waiter is popped and the agent goes inside a GRANT for that waiter, to the decider.
+-- An agent that has lost its last holder goes to the decider: in a GRANT for whoever waits first, and in a FREE where nobody waits.
 abbrev pub anyHolder : List Bool → Bool
 anyHolder hs = any (λ (b : Bool). b) hs
 
@@ -62,17 +61,16 @@ unfoldable pub handOver : Agent → List Bool → List Waiter → Packet
 handOver a hs [] = departing Free a hs []
 handOver a hs (w ∷ ws) = departing (Grant (w .client) (w .mode)) a hs ws
 
--- the agent, with the holders hs of whom one remains or none, stays or leaves
+-- the agent, now with the holders hs, stays or goes; the Bool: there is one
 unfoldable pub staysIf : Bool → Site → Agent → List Bool → Verdict
 staysIf true v a hs = does (withSlot v (someAgent (changed a hs (a .queue) (a .incarnation)))) []
 staysIf false v a hs = does (withSlot v noAgent) (handOver a hs (waiters (a .queue)) ∷ [])
 
--- the agent removes the holder and leaves if empty
+-- the agent strikes the client off, and goes if that was the last
 abbrev pub leaves : Site → Agent → ClientId → Verdict
 leaves v a c = staysIf (anyHolder (without a c)) v a (without a c)
 
--- **Release.** The client becomes idle. If its machine's agent lists it as a holder, the agent removes it and leaves if empty.
--- Otherwise a RELEASE to the decider is sent.
+-- A client releases: it is idle from now on. Where its own machine's agent does not list it, the agent that does is to be found by a RELEASE.
 abbrev pub lists : AgentSlot → ClientId → Bool
 lists x c = x .present && listed (x .agent) c
 

@@ -1,4 +1,5 @@
--- At the decider (Figure 8, 4.2).
+-- What the decider does with a packet (document 01, "At the decider"; Figure 8 and 4.2 of the source). It knows the owner, the machine to which all
+-- that concerns the agent is sent, and counts in its incarnation the shared requests that it granted itself since it chose the owner.
 use mathlib.Core.Bool.{Bool, true, false, _&&_}
 use mathlib.Core.List.{[], _∷_}
 use Prim.Native.Nat.{ℕ, _+_, _%_}
@@ -10,7 +11,7 @@ use Rattle.model.specs.States.{newAgent, plain, carrying, resent, machin
 use Rattle.model.specs.Changes.{Verdict, cannot-place, does, withDecider}
 use Rattle.model.specs.Asking.{changed}
 
--- The incarnation has eight bits and goes from 255 to 0.
+-- Incarnations are counted in eight bits.
 abbrev pub next : ℕ → ℕ
 next n = (n + 1) % 256
 
@@ -18,23 +19,21 @@ next n = (n + 1) % 256
 abbrev pub sentOn : Packet → MachineId → Packet
 sentOn p k = resent p (ToMachine k) (p .rejected)
 
--- Sent on to the agent's machine. Cannot be placed: at a free decider a marked ACQUIRE, RELEASE.
+-- Sent on to the owner. Where the lock is free there is none, and the packet has no place.
 unfoldable pub toOwner : Owner → Site → Packet → Verdict
 toOwner Unowned v p = cannot-place
 toOwner (Owned m k) v p = does v (sentOn p k ∷ [])
 
--- the decider takes the request's mode and machine, incarnation 0, and sends that machine a GRANT with the agent
+-- The client's machine becomes the owner and gets the agent, inside a GRANT; counting begins anew.
 abbrev pub grantsWith : Site → ClientId → Mode → Agent → Verdict
 grantsWith v c m a =
     does (withDecider v (record { owner = Owned m (machineOf c); incarnation = 0 })) (carrying (Grant c m) (ToMachine (machineOf c)) a ∷ [])
 
--- Unmarked ACQUIRE, lock free: the decider takes the request's mode and machine, incarnation 0, and sends that machine a GRANT with
--- a new agent (that mode, no holders, no queue, incarnation 0).
+-- A request for a free lock: the agent is a new one.
 abbrev pub grantsFirst : Site → ClientId → Mode → Verdict
 grantsFirst v c m = grantsWith v c m (newAgent m)
 
--- Unmarked ACQUIRE, lock and request both shared: incarnation plus one; a GRANT without agent to the client's machine is sent,
--- then the ACQUIRE, marked granted, to the agent's machine.
+-- A shared request for a shared lock is granted here and counted: a GRANT tells the client, and behind it the request, now marked, tells the agent.
 abbrev pub ownedShared : Owner → Bool
 ownedShared Unowned = false
 ownedShared (Owned m k) = isShared m
@@ -47,35 +46,34 @@ shares v c k =
     does (withDecider v (record { owner = v .decider .owner; incarnation = next (v .decider .incarnation) }))
     (plain (Grant c Shared) (ToMachine (machineOf c)) ∷ plain (Acquire c Shared true) (ToMachine k) ∷ [])
 
--- Unmarked ACQUIRE otherwise, any marked ACQUIRE, any RELEASE: sent on to the agent's machine.
+-- Every other request is for the agent to decide. One that is marked has been granted before and is never granted again.
 unfoldable pub decidesAcquire : Owner → Site → Packet → ClientId → Mode → Bool → Verdict
 decidesAcquire Unowned v p c m false = grantsFirst v c m
 decidesAcquire (Owned n k) v p c m false = pick (mayShare v m) (shares v c k) (toOwner (Owned n k) v p)
 decidesAcquire Unowned v p c m true = toOwner Unowned v p
 decidesAcquire (Owned n k) v p c m true = toOwner (Owned n k) v p
 
--- incarnations equal
+-- the carried agent has counted as many grants as the decider
 abbrev pub current : Decider → Packet → Bool
 current d p = eqb (p .carried .agent .incarnation) (d .incarnation)
 
--- Either of these two, incarnations unequal: it is marked turned back and goes to the agent's machine; the decider is unchanged.
+-- Where it has not, a marked request is still on its way to the agent: the owner gets the agent back, rejected, and nothing is written.
 abbrev pub rejectedTo : Packet → MachineId → Packet
 rejectedTo p k = resent p (ToMachine k) true
 
 abbrev pub rejects : Site → Packet → MachineId → Verdict
 rejects v p k = does v (rejectedTo p k ∷ [])
 
--- FREE, incarnations equal: the lock is free, incarnation 0, nothing is sent. At a free decider it cannot be placed.
+-- A FREE gives the lock back, unless it is rejected. A lock that is free already has no place for it.
 unfoldable pub decidesFree : Owner → Site → Packet → Verdict
 decidesFree Unowned v p = cannot-place
 decidesFree (Owned n k) v p = pick (current (v .decider) p) (does (withDecider v unowned) []) (rejects v p k)
 
--- GRANT with agent, incarnations equal: the decider takes the GRANT's mode and machine and incarnation 0; the carried incarnation
--- becomes 0; the GRANT goes to that machine.
+-- A GRANT that brings the agent makes its client's machine the owner, and agent and decider count anew.
 abbrev pub passesOn : Site → ClientId → Mode → Agent → Verdict
 passesOn v c m a = grantsWith v c m (changed a (a .holders) (a .queue) 0)
 
--- GRANT without agent: sent on to its client's machine. With agent, at a free decider, it cannot be placed. The Bool: it carries one.
+-- A GRANT without agent is news for its client alone. The Bool: it carries one.
 unfoldable pub decidesGrant : Bool → Owner → Site → Packet → ClientId → Mode → Verdict
 decidesGrant false o v p c m = does v (sentOn p (machineOf c) ∷ [])
 decidesGrant true Unowned v p c m = cannot-place

@@ -1,4 +1,4 @@
--- At a machine (Figure 7, 4.2).
+-- What a machine does with a packet (document 01, "At a machine"; Figure 7 and 4.2 of the source).
 use mathlib.Core.Bool.{Bool, true, false, _&&_}
 use mathlib.Core.List.{List, [], _∷_, map}
 use lib.ListN.{set}
@@ -9,15 +9,15 @@ use Rattle.model.specs.Changes.{Verdict, cannot-place, does, withSlot, w
 use Rattle.model.specs.Asking.{changed, joining, queuing, withRoom, mayJoin, leaves, lists}
 use Rattle.model.specs.AtDecider.{next}
 
--- sent back to the decider as it is
+-- What finds no agent that can serve it goes back to the decider, unchanged, and from there to the owner of that time.
 abbrev pub sentBack : Packet → Packet
 sentBack p = resent p ToDecider (p .rejected)
 
 abbrev pub sendsBack : Site → Packet → Verdict
 sendsBack v p = does v (sentBack p ∷ [])
 
--- Every shared waiter, in queue order, leaves the queue, joins the holders, and a GRANT without agent for it goes to the decider: who leaves
--- where an agent is installed with the mode, and who stays
+-- Where an agent is installed with mode m, who of its queue is admitted to the holders (the shared, if m is shared), and who stays. Each of the two
+-- keeps the queue's order.
 abbrev pub mayLeave : Mode → Waiter → Bool
 mayLeave m w = isShared m && isShared (w .mode)
 
@@ -36,8 +36,7 @@ joined hs (w ∷ ws) = joined (set hs (w .client .0) true) ws
 abbrev pub grantOf : Waiter → Packet
 grantOf w = plain (Grant (w .client) Shared) ToDecider
 
--- With an agent: the agent is installed with the GRANT's mode and the client added to its holders. If that mode is shared, the
--- shared waiters join.
+-- The agent takes the mode for which it was sent, and lists the client and whoever is admitted. These are told by way of the decider.
 abbrev pub installed : Mode → ClientId → Agent → Agent
 installed m c a =
     record {
@@ -50,47 +49,48 @@ installed m c a =
 unfoldable pub installs : Site → ClientId → Mode → Agent → Verdict
 installs v c m a = does (withSlot (withStatus v (Holding m)) (someAgent (installed m c a))) (map grantOf (admitted m (waiters (a .queue))))
 
--- Turned-back GRANT: the carried agent is installed as carried, its client put at the queue's front.
+-- Back from a GRANT that was rejected, with its client as the first in the queue again.
 abbrev pub requeued : Agent → ClientId → Mode → Agent
 requeued a c m = changed a (a .holders) (queueOf (record { client = c; mode = m } ∷ waiters (a .queue))) (a .incarnation)
 
--- GRANT not turned back: its client is holding in its mode. At a machine that has an agent, another agent cannot be placed. The
--- Bools: an agent is here, one is carried.
+-- A GRANT tells its client that it holds, and may bring the agent. A machine has no place for a second one. The Bools: an agent is here, one is
+-- carried.
 unfoldable pub grantArrives : Bool → Bool → Site → Agent → ClientId → Mode → Verdict
 grantArrives here false v a c m = does (withStatus v (Holding m)) []
 grantArrives true true v a c m = cannot-place
 grantArrives false true v a c m = installs v c m a
 
+-- A rejected GRANT tells nobody. The Bool: an agent is here.
 unfoldable pub rejectedGrantArrives : Bool → Site → Agent → ClientId → Mode → Verdict
 rejectedGrantArrives true v a c m = cannot-place
 rejectedGrantArrives false v a c m = withRoom a c (does (withSlot v (someAgent (requeued a c m))) [])
 
--- Marked ACQUIRE: the client joins the holders; the agent's incarnation plus one. At an exclusive agent it cannot be placed.
+-- A marked ACQUIRE is of a client that the decider has told: it is listed, and the agent counts what the decider counted. An exclusive agent has no
+-- place for it.
 unfoldable pub marked : Site → Agent → ClientId → Verdict
 marked v a c =
     pick (isShared (a .mode))
     (does (withSlot v (someAgent (changed a (set (a .holders) (c .0) true) (a .queue) (next (a .incarnation))))) [])
     cannot-place
 
--- Unmarked ACQUIRE: if agent and request are both shared, the client joins the holders and a GRANT without agent for it goes to the
--- decider; otherwise it joins the queue's end.
+-- An unmarked one is served as a client of this machine would be, but whoever joins has to be told, by way of the decider.
 unfoldable pub unmarked : Site → Agent → ClientId → Mode → Verdict
 unmarked v a c m =
     pick (mayJoin v m)
     (does (withSlot v (someAgent (joining a c))) (plain (Grant c m) ToDecider ∷ []))
     (withRoom a c (does (withSlot v (someAgent (queuing a c m))) []))
 
--- ACQUIRE with no agent here: sent back to the decider as it is. The first Bool: an agent is here; the second: marked granted.
+-- The first Bool: an agent is here; the last: marked.
 unfoldable pub acquireArrives : Bool → Site → Agent → Packet → ClientId → Mode → Bool → Verdict
 acquireArrives false v a p c m g = sendsBack v p
 acquireArrives true v a p c m true = marked v a c
 acquireArrives true v a p c m false = unmarked v a c m
 
--- RELEASE of a listed holder: removed, then leaves if empty. Of anyone else, or with no agent here: sent back to the decider.
+-- A RELEASE is for the agent that lists its client.
 unfoldable pub releaseArrives : Site → Packet → ClientId → Verdict
 releaseArrives v p c = pick (lists (v .slot) c) (leaves v (v .slot .agent) c) (sendsBack v p)
 
--- Turned-back FREE: the carried agent is installed as carried. At a machine that has an agent, another agent cannot be placed.
+-- A FREE comes to a machine only when it was rejected: the agent is back as it left. A machine has no place for a second one.
 unfoldable pub freeArrives : Bool → Site → AgentSlot → Verdict
 freeArrives true v carried = cannot-place
 freeArrives false v carried = does (withSlot v carried) []

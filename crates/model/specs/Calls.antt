@@ -54,7 +54,7 @@ clientNamed (Grant c m) = c
 clientNamed (Release c) = c
 clientNamed Free = record { 0 = 0 }
 
--- Delivery takes a place counted from 0; later packets move up.
+-- the packet at an index of the wire
 abbrev pub packetAt : LockState → ℕ → Packet
 packetAt s i = getD (packets (s .wire)) i blankPacket
 
@@ -74,7 +74,7 @@ takes s p rest =
 unfoldable pub deliverStep : LockState → ℕ → Stepped
 deliverStep s i = takes s (packetAt s i) (removed (packets (s .wire)) i)
 
--- The order of tests is 11, 1, 2, 3, 4, 5, 6, 7, 8, 9, 10, each where its call has the thing.
+-- The causes of each call, in the order of their tests; 9 and 10 come last, with the step.
 abbrev pub acquireCauses : Cluster → LockId → MachineId → TaskId → ℕ → List Cause
 acquireCauses x l k t m =
     (Malformed when not (wellFormed x))
@@ -102,7 +102,7 @@ deliverCauses x l i =
     ∷ (IndexRange when leb (length (packets (lockIn x l .wire))) i)
     ∷ []
 
--- A refused call gives its number only and leaves the bench.
+-- A refused call leaves the cluster as it was.
 abbrev pub refusing : Refusal → Cluster → Outcome
 refusing r x = record { answer = Refused r; cluster = x }
 
@@ -130,7 +130,7 @@ perform (AcquireCall l k t m) x = acquire x l k t m
 perform (ReleaseCall l k t) x = release x l k t
 perform (DeliverCall l i) x = deliver x l i
 
--- Each later call gets the bench that the call before returned or, refusing, left.
+-- Calls one after another, each on the cluster that the one before left.
 unfoldable pub run : List Call → Cluster → Cluster
 run [] x = x
 run (c ∷ cs) x = run cs (perform c x .cluster)
@@ -140,6 +140,6 @@ abbrev pub answersOf : List Call → Cluster → List Answer
 answersOf [] x = []
 answersOf (c ∷ cs) x = perform c x .answer ∷ answersOf cs (perform c x .cluster)
 
--- The first gets a fresh bench.
+-- and all of them from a fresh cluster
 abbrev pub after : List Call → Cluster
 after cs = run cs fresh

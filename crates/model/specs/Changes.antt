@@ -43,7 +43,7 @@ accepted s = record { answer = Accepted; state = s }
 abbrev pub refused : Refusal → LockState → Stepped
 refused n s = record { answer = Refused n; state = s }
 
--- Refusals 9 and 10: cannot be placed; the wire after the step would pass 33. The state is then left as it was.
+-- Refusal 9 is the rule's own, and 10 comes where the packets that stay and those sent are too many for the wire. Both leave the state.
 unfoldable pub finish : MachineId → ClientId → Verdict → List Packet → LockState → Stepped
 finish k c cannot-place rest s = refused CannotPlace s
 finish k c (does v sends) rest s =

@@ -1,4 +1,4 @@
--- Draining a lock.
+-- The drain of a lock (document 01, "Draining a lock"): its packets are delivered and its holders release until nothing is left to do.
 use mathlib.Core.Bool.{not}
 use mathlib.Core.List.{List, [], _∷_}
 use Prim.Native.Nat.{ℕ, zero, suc, _/_, _%_}
@@ -12,7 +12,7 @@ use Rattle.model.specs.WellFormed.{wellFormed}
 use Rattle.model.specs.Refusals.{_when_, first}
 use Rattle.model.specs.Calls.{isHolding, perform}
 
--- 16,384 steps
+-- the steps that it may take
 abbrev pub allowance : ℕ
 allowance = 16384
 
@@ -21,12 +21,13 @@ pub data Next : Type 0 where
   none : Next
   some : Call → Next
 
--- With an empty wire, release the holding client of lowest number; n is the number of the first client in the list.
+-- the release by the first holder of a list whose clients are numbered from n
 unfoldable pub releaseFirst : LockId → ℕ → List ClientState → Next
 releaseFirst l n [] = none
-releaseFirst l n (c ∷ cs) = pick (isHolding (c .status)) (some (ReleaseCall l (record { 0 = n / tasks }) (record { 0 = n % tasks }))) (releaseFirst l (suc n) cs)
+releaseFirst l n (c ∷ cs) =
+    pick (isHolding (c .status)) (some (ReleaseCall l (record { 0 = n / tasks }) (record { 0 = n % tasks }))) (releaseFirst l (suc n) cs)
 
--- Deliver place 0; with an empty wire, release; with neither, stop.
+-- Packets come first, from the front of the wire, and releases when there are none.
 unfoldable pub nextOf : LockId → List Packet → List ClientState → Next
 nextOf l [] cs = releaseFirst l 0 cs
 nextOf l (p ∷ ps) cs = some (DeliverCall l 0)
@@ -34,7 +35,7 @@ nextOf l (p ∷ ps) cs = some (DeliverCall l 0)
 abbrev pub nextCall : LockId → LockState → Next
 nextCall l s = nextOf l (packets (s .wire)) (s .clients)
 
--- A lock is at rest when the drain has no step for it.
+-- A lock is quiescent when that leaves nothing.
 abbrev pub Quiescent : LockId → LockState → Type 0
 Quiescent l s = Path Next (nextCall l s) none
 
@@ -50,7 +51,7 @@ ending a x = record { answer = a; calls = []; cluster = x }
 abbrev pub after-one : Call → Drainage → Drainage
 after-one c d = record { answer = d .answer; calls = c ∷ d .calls; cluster = d .cluster }
 
--- A drain repeats, for one lock, with the steps left falling. Its steps are these same calls; a refusal inside ends it with that number.
+-- Call after call, with so many steps left; a refused one ends the drain.
 unfoldable pub drainage : ℕ → LockId → Cluster → Drainage
 drainage zero l x = elim (nextCall l (lockIn x l)) [ none ↦ ending Accepted x | some c ↦ ending (Refused NotQuiescent) x ]
 drainage (suc left) l x =
@@ -63,8 +64,7 @@ drainage (suc left) l x =
 abbrev pub drainCalls : LockId → Cluster → List Call
 drainCalls l x = drainage allowance l x .calls
 
--- It returns the bench and the number of steps taken, 0 for a lock at rest. A refusal ends it with that number, count 0 and the bench
--- first given.
+-- A drain that comes to its end counts its steps. Any other leaves the cluster that it was given, and counts none.
 abbrev pub drainRefused : Refusal → Cluster → Drained
 drainRefused r x = record { answer = Refused r; count = 0; cluster = x }
 

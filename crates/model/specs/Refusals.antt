@@ -1,4 +1,4 @@
--- Zero and the refusals.
+-- Answers, and the numbers by which they are known (document 01, "Zero and the refusals").
 use mathlib.Core.Bool.{Bool, true, false}
 use mathlib.Core.List.{List, [], _∷_}
 use Prim.Native.Nat.{ℕ}
@@ -6,42 +6,42 @@ use Rattle.model.specs.Names.{Refusal, Malformed, LockRange, MachineRang
 use Rattle.model.specs.Names.{WireFull, BadRecord, TranscriptLength, NotQuiescent, Answer, Accepted, Refused}
 
 abbrev pub refusalNumber : Refusal → ℕ
--- bench malformed
+-- the cluster is not well formed
 refusalNumber Malformed = 11
--- lock above 7
+-- there is no such lock
 refusalNumber LockRange = 1
--- machine above 3
+-- there is no such machine
 refusalNumber MachineRange = 2
--- task above 3
+-- a machine has no such task
 refusalNumber TaskRange = 3
--- acquire mode not 2 or 3
+-- a request is exclusive or shared
 refusalNumber ModeRange = 4
--- acquire by a client not idle on that lock
+-- the client waits for this lock or holds it already
 refusalNumber NotIdle = 5
--- acquire while a packet on that lock's wire names the client
+-- something of its last use is still under way
 refusalNumber StillNamed = 6
--- release by a client not holding
+-- only a holder can release
 refusalNumber NotHolding = 7
--- place at or past the wire's length
+-- no packet has this index
 refusalNumber IndexRange = 8
--- cannot be placed
+-- a rule has no place for what comes
 refusalNumber CannotPlace = 9
--- the wire after the step would pass 33
+-- the wire is too short for what is sent
 refusalNumber WireFull = 10
--- transcript record bad
+-- what stands here is no record
 refusalNumber BadRecord = 12
--- transcript above 65,535 bytes
+-- the transcript is too long
 refusalNumber TranscriptLength = 13
--- drain not at rest after 16,384 steps
+-- the drain has no step left, and the lock is not quiescent
 refusalNumber NotQuiescent = 14
 
--- A zero means accepted and nothing else.
+-- 0 is the number of Accepted alone.
 abbrev pub number : Answer → ℕ
 number Accepted = 0
 number (Refused r) = refusalNumber r
 
 infixl 20 _when_
--- A number is given whenever its cause holds and no earlier cause does, and at no other time.
+-- A refusal with its cause. Of the causes of a call, in their order, the first that holds decides; where none holds, the call is accepted.
 pub data Cause : Type 0 where
   _when_ : Refusal → Bool → Cause
 

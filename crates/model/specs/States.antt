@@ -1,4 +1,4 @@
--- What stands on the bench.
+-- The state of the simulated cluster (document 01, "What stands on the bench").
 use mathlib.Core.Bool.{Bool, true, false}
 use mathlib.Core.List.{List, []}
 use Prim.Native.Nat.{ℕ, _+_, _*_, _/_}
@@ -8,7 +8,7 @@ use Rattle.model.specs.Lists.{pick, padded}
 use Rattle.model.specs.Names.{LockId, MachineId, TaskId, ClientId, Mode, Exclusive, Shared, Owner, Unowned, Owned, Decider, Waiter, Queue, Agent}
 use Rattle.model.specs.Names.{AgentSlot, Address, ToDecider, Message, Free, Packet, Wire, Status, Idle, ClientState, LockState, Cluster}
 
--- 8 locks (0 to 7), 4 machines (0 to 3), 4 tasks on each machine (0 to 3).
+-- How many there are of each. All are numbered from 0.
 abbrev pub locks : ℕ
 locks = 8
 
@@ -21,21 +21,17 @@ tasks = 4
 abbrev pub clients : ℕ
 clients = machines * tasks
 
--- A client is a machine and a task; its number is 4 × machine + task, 0 to 15.
+-- A client is a task of a machine. The clients of a machine have numbers in a row.
 abbrev pub clientOf : MachineId → TaskId → ClientId
 clientOf k t = record { 0 = tasks * k .0 + t .0 }
 
 abbrev pub machineOf : ClientId → MachineId
 machineOf c = record { 0 = c .0 / tasks }
 
--- Modes are those of Figure 6: free 0, exclusive 2, shared 3; only a decider's may be 0.
+-- The modes by their numbers in Figure 6 of the source. Its third, free with number 0, is a decider's alone: here it is a lock without owner.
 abbrev pub modeNumber : Mode → ℕ
 modeNumber Exclusive = 2
 modeNumber Shared = 3
-
-abbrev pub ownerNumber : Owner → ℕ
-ownerNumber Unowned = 0
-ownerNumber (Owned m k) = modeNumber m
 
 -- the mode of a number that is 2 or 3
 abbrev pub modeOf : ℕ → Mode
@@ -45,7 +41,7 @@ abbrev pub isShared : Mode → Bool
 isShared Exclusive = false
 isShared Shared = true
 
--- A queue of at most 16 waiters: the first of an array's slots, the others blank.
+-- A queue: the waiters stand in the first slots of an array, the other slots are blank.
 abbrev pub queueCapacity : ℕ
 queueCapacity = 16
 
@@ -58,7 +54,7 @@ queueOf ws = record { slots = padded queueCapacity blankWaiter ws; len = length 
 unfoldable pub waiters : Queue → List Waiter
 waiters q = take (q .len) (q .slots)
 
--- For each machine, an agent or none: mode, a set of holders, a queue, incarnation.
+-- A machine has an agent or none. A new agent lists nobody and nobody waits for it.
 abbrev pub noHolders : List Bool
 noHolders = replicate clients false
 
@@ -74,18 +70,18 @@ noAgent = record { present = false; agent = newAgent Exclusive }
 abbrev pub agentOn : LockState → MachineId → AgentSlot
 agentOn s k = getD (s .agents) (k .0) noAgent
 
--- its holders list the client
+-- the agent has the client among its holders
 abbrev pub listed : Agent → ClientId → Bool
 listed a c = getD (a .holders) (c .0) false
 
--- For each client a status: idle, waiting in a mode, holding in a mode.
+-- A client is idle, waits or holds, the last two in a mode.
 abbrev pub idle : ClientState
 idle = record { status = Idle }
 
 abbrev pub statusOf : LockState → ClientId → Status
 statusOf s c = getD (s .clients) (c .0) idle .status
 
--- The wire: at most 33 packets in the order they were sent.
+-- The wire: the packets under way, in the first slots of an array, by age.
 abbrev pub wireCapacity : ℕ
 wireCapacity = 33
 
@@ -109,7 +105,7 @@ wireOf ps = record { slots = padded wireCapacity blankPacket ps; len = length ps
 unfoldable pub packets : Wire → List Packet
 packets w = take (w .len) (w .slots)
 
--- Fresh: every lock free with incarnation 0, no agents, all idle, wires empty.
+-- A fresh cluster: nobody owns, holds or asks for a lock, and nothing is under way.
 abbrev pub unowned : Decider
 unowned = record { owner = Unowned; incarnation = 0 }
 

@@ -1,4 +1,5 @@
--- Runs, waits and holds: read from what the calls do, not from the statuses.
+-- Who waits and who holds, by what the calls of a run did (document 01, "Runs, waits and holds"). The statuses are not looked at: that they agree
+-- is a theorem.
 use mathlib.Core.Bool.{Bool, true, false, _&&_, not}
 use mathlib.Core.List.{List, [], _∷_}
 use Prim.Native.Nat.{ℕ, _+_}
@@ -10,7 +11,7 @@ use Rattle.model.specs.States.{modeOf, clientOf, machineOf, agentOn, loc
 use Rattle.model.specs.Asking.{lists}
 use Rattle.model.specs.Calls.{packetAt, perform}
 
--- What one client has seen of one lock: its phase, and how often it was granted the lock ('is shown a grant').
+-- What one client has seen of one lock: its phase, and how many grants it was shown.
 pub record View : Type 0 where
   pub phase : Status
   pub grants : ℕ
@@ -19,7 +20,7 @@ abbrev pub unseen : View
 unseen = record { phase = Idle; grants = 0 }
 
 abbrev pub sameLock : LockId → LockId → Bool
-sameLock l k = eqb (l .0) (k .0)
+sameLock l j = eqb (l .0) (j .0)
 
 abbrev pub sameClient : ClientId → ClientId → Bool
 sameClient c d = eqb (c .0) (d .0)
@@ -32,11 +33,11 @@ isAccepted (Refused r) = false
 abbrev pub listedHome : LockId → ClientId → Cluster → Bool
 listedHome l c x = lists (agentOn (lockIn x l) (machineOf c)) c
 
--- A client is shown a grant of a lock by its accepted acquire with which it joins the holders at once,
+-- Its own acquire shows it a grant where its machine's agent lists it after the call and did not before,
 abbrev pub joinsNow : LockId → ClientId → Cluster → Cluster → Bool
 joinsNow l c x y = listedHome l c y && not (listedHome l c x)
 
--- and by every accepted delivery, at a machine, of a GRANT for it that isn't turned back, while it isn't idle.
+-- and so does a GRANT for it that reaches a machine and is not rejected.
 abbrev pub toMachine : Address → Bool
 toMachine ToDecider = false
 toMachine (ToMachine k) = true
@@ -50,8 +51,8 @@ isGrantFor c Free = false
 abbrev pub showsGrant : ClientId → Packet → Bool
 showsGrant c p = toMachine (p .to) && (isGrantFor c (p .message) && not (p .rejected))
 
--- It waits from its accepted acquire until it is shown a grant, then holds, in the mode it asked for, until its accepted release;
--- otherwise it is idle.
+-- How each changes its view: after an acquire it holds if it was shown a grant, and waits if not; a grant makes who waits a holder, in the mode asked
+-- for, and is none to who is idle; a release makes it idle.
 abbrev pub afterAcquire : Mode → Bool → View → View
 afterAcquire m true v = record { phase = Holding m; grants = v .grants + 1 }
 afterAcquire m false v = record { phase = Waiting m; grants = v .grants }
@@ -67,21 +68,21 @@ afterGrant v = afterGrantIn (v .phase) (v .grants)
 abbrev pub afterRelease : View → View
 afterRelease v = record { phase = Idle; grants = v .grants }
 
--- the client's view of the lock after an accepted call on x that gave y
+-- the view of client c on lock l after an accepted call on x that gave y; j is the call's own lock
 unfoldable pub sees : LockId → ClientId → Call → Cluster → Cluster → View → View
-sees l c (AcquireCall k m t n) x y v = pick (sameLock l k && sameClient c (clientOf m t)) (afterAcquire (modeOf n) (joinsNow l c x y) v) v
-sees l c (ReleaseCall k m t) x y v = pick (sameLock l k && sameClient c (clientOf m t)) (afterRelease v) v
-sees l c (DeliverCall k i) x y v = pick (sameLock l k && showsGrant c (packetAt (lockIn x l) i)) (afterGrant v) v
+sees l c (AcquireCall j k t m) x y v = pick (sameLock l j && sameClient c (clientOf k t)) (afterAcquire (modeOf m) (joinsNow l c x y) v) v
+sees l c (ReleaseCall j k t) x y v = pick (sameLock l j && sameClient c (clientOf k t)) (afterRelease v) v
+sees l c (DeliverCall j i) x y v = pick (sameLock l j && showsGrant c (packetAt (lockIn x l) i)) (afterGrant v) v
 
 unfoldable pub watch : LockId → ClientId → List Call → Cluster → View → View
 watch l c [] x v = v
 watch l c (a ∷ cs) x v =
     watch l c cs (perform a x .cluster) (pick (isAccepted (perform a x .answer)) (sees l c a x (perform a x .cluster) v) v)
 
--- the client's phase by the trace of a list from a fresh bench
+-- the phase after a list of calls from a fresh cluster
 abbrev pub phaseAfter : LockId → ClientId → List Call → Status
 phaseAfter l c cs = watch l c cs fresh unseen .phase
 
--- how often the client is granted the lock in a list of calls on x, whose view was v
+-- the grants that a client in phase st is shown by a list of calls on x
 abbrev pub grantsIn : LockId → ClientId → List Call → Cluster → Status → ℕ
 grantsIn l c cs x st = watch l c cs x (record { phase = st; grants = 0 }) .grants

@@ -1,4 +1,4 @@
--- Transcripts and the desk program.
+-- Transcripts: bytes that are a row of records, each a call (document 01, "Transcripts and the desk program").
 use mathlib.Core.Bool.{_&&_, not}
 use mathlib.Core.List.{List, [], _∷_}
 use Prim.Native.Nat.{ℕ, zero, suc, _+_, _-_, _*_}
@@ -11,15 +11,14 @@ use Rattle.model.specs.WellFormed.{wellFormed}
 use Rattle.model.specs.Refusals.{_when_, first}
 use Rattle.model.specs.Calls.{perform}
 
--- two bytes, little-endian
+-- a number in two bytes, the low one first
 abbrev pub short : List ℕ → ℕ → ℕ
 short bytes i = getD bytes i 0 + 256 * getD bytes (i + 1) 0
 
 abbrev pub byteAt : List ℕ → ℕ → ℕ
 byteAt bytes i = getD bytes i 0
 
--- A record is its whole length in two bytes, its kind in two bytes, both little-endian, then one byte each: kind 1 acquire (lock,
--- machine, task, mode), length 8; kind 2 release (lock, machine, task), length 7; kind 3 deliver (lock, place), length 6.
+-- A record begins with its length and its kind, two bytes each. Its fields follow, a byte each, in the order of the call's arguments.
 abbrev pub acquireAt : List ℕ → ℕ → Call
 acquireAt bytes i =
     AcquireCall (record { 0 = byteAt bytes (i + 4) }) (record { 0 = byteAt bytes (i + 5) }) (record { 0 = byteAt bytes (i + 6) }) (byteAt bytes (i + 7))
@@ -34,7 +33,8 @@ deliverAt bytes i = DeliverCall (record { 0 = byteAt bytes (i + 4) }) (byteAt by
 abbrev pub wholeRecord : ℕ → List ℕ → ℕ → Call → Reading
 wholeRecord n bytes i c = pick (eqb (short bytes i) n && leb n (length bytes - i)) (Record c (i + n)) Bad
 
--- Bad: one to three bytes left, unknown kind, another length, cut short. No bytes left is the end.
+-- What stands at position i; past the last byte, the end. Bad are too few bytes for a length and a kind, a kind that is none, a length that is not
+-- its kind's, and a record that is cut off.
 unfoldable pub readRecord : List ℕ → ℕ → Reading
 readRecord bytes i =
     pick (leb (length bytes) i) End
@@ -46,8 +46,8 @@ readRecord bytes i =
 abbrev pub replayed : Answer → ℕ → Cluster → Replayed
 replayed a n x = record { answer = a; records = n; cluster = x }
 
--- Record by record, from the position i with n records behind it. Reading stops at a bad record; a refused step inside doesn't stop
--- it. The first number bounds the records left: each has at least six bytes.
+-- From position i on, with n records read. A bad record ends it and counts as read; a refused call does not end it. The first number bounds the
+-- records that are left.
 unfoldable pub replayFrom : ℕ → List ℕ → ℕ → ℕ → Cluster → Replayed
 replayFrom zero bytes i n x = replayed Accepted n x
 replayFrom (suc left) bytes i n x =
@@ -61,6 +61,6 @@ unfoldable pub replayUnless : Answer → Cluster → List ℕ → Replayed
 replayUnless (Refused r) x bytes = replayed (Refused r) 0 x
 replayUnless Accepted x bytes = replayFrom (length bytes + 1) bytes 0 0 x
 
--- A transcript call tests 11, then 13, before any record is run. Read to its end it gives 0, the count of its records and the bench.
+-- Two tests come before any record.
 unfoldable pub replay : Cluster → List ℕ → Replayed
 replay x bytes = replayUnless (first ((Malformed when not (wellFormed x)) ∷ (TranscriptLength when ltb 65535 (length bytes)) ∷ [])) x bytes

@@ -1,4 +1,5 @@
--- A bench outside these bounds is malformed. A type bounds modes, owners, statuses, incarnations (eight bits) and holders already.
+-- Which states are well formed (document 01, "What stands on the bench"). What a declared type rules out needs no test: a decider that is free and has a machine, a request that is neither
+-- exclusive nor shared. An incarnation is a u8 in code, so below 256; in these definitions it is a number, and nothing here bounds it.
 use mathlib.Core.Bool.{Bool, true, false, _&&_, _||_, not}
 use mathlib.Core.List.{List, [], _∷_}
 use Prim.Native.Nat.{ℕ}
@@ -9,7 +10,7 @@ use Rattle.model.specs.Names.{MachineId, ClientId, Owner, Unowned, Owned
 use Rattle.model.specs.Names.{Acquire, Grant, Release, Packet, Wire, LockState, Cluster}
 use Rattle.model.specs.States.{locks, machines, clients, queueCapacity, wireCapacity, isShared}
 
--- machines 0 to 3, clients 0 to 15
+-- numbers that are some machine's, some client's
 abbrev pub machineInRange : MachineId → Bool
 machineInRange k = ltb (k .0) machines
 
@@ -24,7 +25,7 @@ abbrev pub addressInRange : Address → Bool
 addressInRange ToDecider = true
 addressInRange (ToMachine k) = machineInRange k
 
--- An array of n, of which the first len count: what lies past them is blank.
+-- Of the n slots of an array the first len are in use, and the others are blank.
 module _ {A : Type 0} where
   unfoldable pub shaped : ℕ → (A → Bool) → List A → ℕ → Bool
   shaped n blank slots len = eqb (length slots) n && (leb len n && all blank (drop len slots))
@@ -32,7 +33,7 @@ module _ {A : Type 0} where
 unfoldable pub isBlankWaiter : Waiter → Bool
 isBlankWaiter w = eqb (w .client .0) 0 && not (isShared (w .mode))
 
--- A queue of at most 16 waiters (client and mode, no client twice).
+-- A client stands in a queue once at most.
 abbrev pub isClient : ClientId → Waiter → Bool
 isClient c w = eqb (w .client .0) (c .0)
 
@@ -47,7 +48,7 @@ unfoldable pub queueFormed : Queue → Bool
 queueFormed q =
     shaped queueCapacity isBlankWaiter (q .slots) (q .len) && (all waiterInRange (take (q .len) (q .slots)) && distinct (take (q .len) (q .slots)))
 
--- An agent: a set of holders, a queue.
+-- An agent has a flag for each client, and a queue.
 unfoldable pub agentFormed : Agent → Bool
 agentFormed a = eqb (length (a .holders)) clients && queueFormed (a .queue)
 
@@ -57,7 +58,7 @@ isBlankAgent a =
     && (eqb (length (a .holders)) clients
     && (all not (a .holders) && (shaped queueCapacity isBlankWaiter (a .queue .slots) 0 && (eqb (a .queue .len) 0 && eqb (a .incarnation) 0))))
 
--- An agent or none.
+-- Where there is no agent, its slot is blank.
 abbrev pub slotBy : Bool → Agent → Bool
 slotBy true a = agentFormed a
 slotBy false a = isBlankAgent a
@@ -65,8 +66,8 @@ slotBy false a = isBlankAgent a
 unfoldable pub slotFormed : AgentSlot → Bool
 slotFormed s = slotBy (s .present) (s .agent)
 
--- FREE always carries an agent, GRANT sometimes, the others never. A FREE, or a GRANT with agent, may be rejected, and is then
--- addressed to a machine; an unmarked FREE is addressed to the decider. Arguments: carries an agent, rejected, address.
+-- Requests and releases travel without agent, a FREE with one, a GRANT with or without. Only what has an agent can be rejected, and it then goes
+-- to a machine; a FREE goes to a machine in no other way. The arguments: carries an agent, rejected, address.
 abbrev pub toDecider : Address → Bool
 toDecider ToDecider = true
 toDecider (ToMachine k) = false
@@ -91,11 +92,11 @@ unfoldable pub isBlankPacket : Packet → Bool
 isBlankPacket p =
     isFree (p .message) && (toDecider (p .to) && (not (p .rejected) && (not (p .carried .present) && isBlankAgent (p .carried .agent))))
 
--- The wire: at most 33 packets.
+-- A wire and its packets.
 unfoldable pub wireFormed : Wire → Bool
 wireFormed w = shaped wireCapacity isBlankPacket (w .slots) (w .len) && all packetFormed (take (w .len) (w .slots))
 
--- For each lock: the decider's record, an agent or none for each machine, a status for each client, the wire.
+-- A lock's state: every part of it, and as many agents and statuses as there are machines and clients.
 unfoldable pub lockFormed : LockState → Bool
 lockFormed s =
     ownerInRange (s .decider .owner)

@@ -13,9 +13,9 @@ pub record Inv (r : LockState) : Type 0 where
   pub holds : (d : ℕ) → weight (listedP d) (listedS d) r ≡ holdF (statusAt r d) + tally (owedP d) (packets (r .wire))
   -- at most one RELEASE, and of an idle client
   pub rels : (d : ℕ) → tally (releaseP d) (packets (r .wire)) ≤ idleF (statusAt r d)
-  -- one agent, on a machine or in a packet, if the lock is owned; else none
+  -- an owned lock has one agent, somewhere, and a free one has none
   pub agent : weight agentP agentS r ≡ ownedF (r .decider .owner)
-  -- the decider's incarnation is the agent's and one more for each mark on the wire
+  -- the agent's incarnation and the marks under way make up the decider's
   pub incs : r .decider .incarnation ≡ (weight incarnationP incarnationS r + tally markP (packets (r .wire))) % 256
   -- a client that holds, holds in the lock's mode
   pub modes : (d : ℕ) → clash (r .decider .owner) (statusAt r d) ≡ 0
