@@ -1,5 +1,6 @@
--- Which states are well formed (document 01, "What stands on the bench"). What a declared type rules out needs no test: a decider that is free and has a machine, a request that is neither
--- exclusive nor shared. An incarnation is a u8 in code, so below 256; in these definitions it is a number, and nothing here bounds it.
+-- Which states are well formed (document 01, "What stands on the bench"). What a declared type rules out needs no test: a decider that is free and has
+-- a machine, a request that is neither exclusive nor shared. An incarnation is a u8 in code, so below 256; in these definitions it is a number, and
+-- nothing here bounds it.
 use mathlib.Core.Bool.{Bool, true, false, _&&_, _||_, not}
 use mathlib.Core.List.{List, [], _∷_}
 use Prim.Native.Nat.{ℕ}
