@@ -5,7 +5,7 @@ use Prim.Native.Nat.{ℕ, _+_, _*_, _/_}
 use lib.ListN.{length, take, getD, replicate}
 use lib.Dec.{eqb}
 use Rattle.model.specs.Lists.{pick, padded}
-use Rattle.model.specs.Names.{LockId, MachineId, TaskId, ClientId, Mode, Exclusive, Shared, Owner, Unowned, Owned, Decider, Waiter, Queue, Agent}
+use Rattle.model.specs.Names.{LockId, MachineId, TaskId, ClientId, Mode, Exclusive, Shared, Unowned, Decider, Waiter, Queue, Agent}
 use Rattle.model.specs.Names.{AgentSlot, Address, ToDecider, Message, Free, Packet, Wire, Status, Idle, ClientState, LockState, Cluster}
 
 -- How many there are of each. All are numbered from 0.

@@ -27,10 +27,9 @@ use Rattle.model.specs.Changes.{refused}
 use Rattle.model.specs.Calls.{perform}
 use Rattle.model.specs.Transcripts.{short, acquireAt, releaseAt, deliverAt, wholeRecord, readRecord, replayed, replayFrom, replayUnless, replay}
 use Rattle.laws.specs.Tests.{and-right}
-use Rattle.laws.specs.Formed.{lock-formed}
 use Rattle.laws.specs.CallSteps.{lockOf}
 use Rattle.laws.specs.Clusters.{perform-formed}
-use Rattle.engine.specs.LockCalls.{callOn, lock-read, perform-range, writtenBy, perform-written, written-formed}
+use Rattle.engine.specs.LockCalls.{callOn, lock-read, read-formed, perform-range, writtenBy, perform-written, written-formed}
 
 -- ---- a record has at least six bytes, and ends within the transcript
 data Ends (bytes : List ℕ) (i : ℕ) : Reading → Type 0 where
@@ -92,24 +91,24 @@ module _ (left : ℕ) (bytes : List ℕ) (i n : ℕ) (x : Cluster) where
   from-end e = rw (e, replayFrom)
 
 -- ---- At the position i with n records behind it the cluster is y, and the rest of the run from there is the whole run.
-pub record Course (bytes : List ℕ) (x : Cluster) (i n : ℕ) (y : Cluster) : Type 0 where
+pub record Progress (bytes : List ℕ) (x : Cluster) (i n : ℕ) (y : Cluster) : Type 0 where
   pub left : replayFrom (suc (length bytes - n)) bytes i n y ≡ replayFrom (length bytes + 1) bytes 0 0 x
   pub formed : wellFormed y ≡ true
   pub behind : 6 * n ≤ i
   pub inside : i ≤ length bytes
 
-pub course-start : (bytes : List ℕ) (x : Cluster) → wellFormed x ≡ true → Course bytes x 0 0 x
-course-start bytes x w =
+pub progress-start : (bytes : List ℕ) (x : Cluster) → wellFormed x ≡ true → Progress bytes x 0 0 x
+progress-start bytes x w =
     let e : suc (length bytes - 0) ≡ length bytes + 1 = omega arith in
     record { left = rw e; formed = w; behind = omega arith; inside = omega arith }
 
-module _ {bytes : List ℕ} {x : Cluster} {i n : ℕ} {y : Cluster} (p : Course bytes x i n y) where
+module _ {bytes : List ℕ} {x : Cluster} {i n : ℕ} {y : Cluster} (p : Progress bytes x i n y) where
   -- the state that a call is planned on, read from the cluster with any default
-  pub course-lock : (l : LockId) (d : LockState) → l .0 < locks → lockFormed (getD (y .locks) (l .0) d) ≡ true
-  course-lock l d h = rw (lock-read y l d (p .formed) h) (lock-formed y l (p .formed) h)
+  pub progress-lock : (l : LockId) (d : LockState) → l .0 < locks → lockFormed (getD (y .locks) (l .0) d) ≡ true
+  progress-lock l d h = read-formed y l d (p .formed) h
 
-  pub course-on : (c : Call) (j : ℕ) → readRecord bytes i ≡ Record c j → Course bytes x j (n + 1) (perform c y .cluster)
-  course-on c j e =
+  pub progress-on : (c : Call) (j : ℕ) → readRecord bytes i ≡ Record c j → Progress bytes x j (n + 1) (perform c y .cluster)
+  progress-on c j e =
       let h = record-ends bytes i c j e in
       let f : suc (length bytes - (n + 1)) ≡ length bytes - n = omega (arith, p .behind, h) in
       record {
@@ -119,27 +118,27 @@ module _ {bytes : List ℕ} {x : Cluster} {i n : ℕ} {y : Cluster} (p : Course 
         inside = h .1;
       }
 
-  pub course-step : (c : Call) (j : ℕ) (l : LockId) (d : LockState) (o : Stepped) → readRecord bytes i ≡ Record c j → l ≡ lockOf c → l .0 < locks
-      → o ≡ callOn c (getD (y .locks) (l .0) d) → Course bytes x j (n + 1) (placed y l o)
-  course-step c j l d o e q h f =
+  pub progress-step : (c : Call) (j : ℕ) (l : LockId) (d : LockState) (o : Stepped) → readRecord bytes i ≡ Record c j → l ≡ lockOf c → l .0 < locks
+      → o ≡ callOn c (getD (y .locks) (l .0) d) → Progress bytes x j (n + 1) (placed y l o)
+  progress-step c j l d o e q h f =
       let w = p .formed in
-      rw (in-place c y l d o w q h f, ← perform-written c y w (rw q at h)) (course-on c j e)
+      rw (in-place c y l d o w q h f, ← perform-written c y w (rw q at h)) (progress-on c j e)
 
-  pub course-refused : (c : Call) (j : ℕ) (l : LockId) (d : LockState) (r : Refusal) → readRecord bytes i ≡ Record c j → l ≡ lockOf c → l .0 < locks
-      → refused r (getD (y .locks) (l .0) d) ≡ callOn c (getD (y .locks) (l .0) d) → Course bytes x j (n + 1) y
-  course-refused c j l d r e q h f =
-      subst (λ (ls : List LockState). Course bytes x j (n + 1) (record { locks = ls })) (set-getD (y .locks) (l .0) d) (course-step c j l d _ e q h f)
+  pub progress-refused : (c : Call) (j : ℕ) (l : LockId) (d : LockState) (r : Refusal) → readRecord bytes i ≡ Record c j → l ≡ lockOf c → l .0 < locks
+      → refused r (getD (y .locks) (l .0) d) ≡ callOn c (getD (y .locks) (l .0) d) → Progress bytes x j (n + 1) y
+  progress-refused c j l d r e q h f =
+      subst (λ (ls : List LockState). Progress bytes x j (n + 1) (record { locks = ls })) (set-getD (y .locks) (l .0) d) (progress-step c j l d _ e q h f)
 
-  pub course-skip : (c : Call) (j : ℕ) (l : LockId) → readRecord bytes i ≡ Record c j → l ≡ lockOf c → locks ≤ l .0 → Course bytes x j (n + 1) y
-  course-skip c j l e q h =
+  pub progress-skip : (c : Call) (j : ℕ) (l : LockId) → readRecord bytes i ≡ Record c j → l ≡ lockOf c → locks ≤ l .0 → Progress bytes x j (n + 1) y
+  progress-skip c j l e q h =
       let f = ap (λ (r : Outcome). r .cluster) (perform-range c y (p .formed) (rw q at h)) in
-      subst (λ (z : Cluster). Course bytes x j (n + 1) z) f (course-on c j e)
+      subst (λ (z : Cluster). Progress bytes x j (n + 1) z) f (progress-on c j e)
 
-  pub course-bad : readRecord bytes i ≡ Bad → replayed (Refused BadRecord) (n + 1) y ≡ replayFrom (length bytes + 1) bytes 0 0 x
-  course-bad e = sym (from-bad _ bytes i n y e) ∙ p .left
+  pub progress-bad : readRecord bytes i ≡ Bad → replayed (Refused BadRecord) (n + 1) y ≡ replayFrom (length bytes + 1) bytes 0 0 x
+  progress-bad e = sym (from-bad _ bytes i n y e) ∙ p .left
 
-  pub course-end : readRecord bytes i ≡ End → replayed Accepted n y ≡ replayFrom (length bytes + 1) bytes 0 0 x
-  course-end e = sym (from-end _ bytes i n y e) ∙ p .left
+  pub progress-end : readRecord bytes i ≡ End → replayed Accepted n y ≡ replayFrom (length bytes + 1) bytes 0 0 x
+  progress-end e = sym (from-end _ bytes i n y e) ∙ p .left
 
 -- ---- 11, then 13, before any record is run
 module _ (x : Cluster) (bytes : List ℕ) where
