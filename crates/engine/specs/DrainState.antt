@@ -15,7 +15,8 @@ use Rattle.model.specs.States.{locks, tasks, clients, packets, lockIn, freshLoc
 use Rattle.model.specs.WellFormed.{lockFormed, wellFormed}
 use Rattle.model.specs.Refusals.{first}
 use Rattle.model.specs.Calls.{isHolding, releaseStep, deliverStep, settled, perform}
-use Rattle.model.specs.Drain.{allowance, Next, none, some, releaseFirst, nextOf, nextCall, Drainage, ending, drainage, drainRefused, drainEnded, drainUnless, drain}
+use Rattle.model.specs.Drain.{allowance, Next, none, some, releaseFirst, nextOf, nextCall, Drainage, ending, drainage, drainRefused, drainEnded, drainUnless}
+use Rattle.model.specs.Drain.{drain}
 use Rattle.laws.specs.Formed.{all-locks, parts, ready}
 use Rattle.laws.specs.Shapes.{length-packets}
 use Rattle.laws.specs.CallSteps.{stepOf}

@@ -1,4 +1,4 @@
-// The desk program: runs a transcript from standard input on a fresh cluster and prints its listing.
+// The program replay: runs a transcript from standard input on a fresh cluster and prints its listing.
 mod listing;
 mod text;
 

@@ -1,4 +1,5 @@
-// Deliveries at the decider. Parameters of a rule: v the site, p the packet, o the owner.
+// Deliveries at the decider. Parameters of a rule: v the site, p the packet, o the owner, c the client, m its mode, k the owner's machine, a the agent.
+// In a contract a name is the model's; `verdictOf` (specs/Effects.antt) reads an Effect as the model's Verdict.
 use crate::effect::Effect;
 use crate::effect::cannot_place;
 use crate::effect::doing;

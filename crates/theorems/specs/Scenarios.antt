@@ -217,7 +217,7 @@ scenarios =
     ∷ from d4 (delivers0 1 ∷ []) (ok ∷ []) d5
     -- D6
     ∷ from d2 (delivers0 0 ∷ releases0 1 0 ∷ delivers0 1 ∷ delivers0 1 ∷ []) (replicate 4 ok) d6
-    -- D7
+    -- D7: as long as its RELEASE is under way, 1/0 may not ask again
     ∷ from d6 (acquires0 1 0 3 ∷ []) (Refused StillNamed ∷ []) d6
     -- D8
     ∷ from freshLock (acquires0 0 0 2 ∷ delivers0 0 ∷ delivers0 0 ∷ acquires0 1 0 2 ∷ delivers0 0 ∷ delivers0 0 ∷ []) (replicate 6 ok) d8-queued
@@ -225,7 +225,7 @@ scenarios =
     -- D9
     ∷ from d9-start (acquires0 1 0 3 ∷ delivers0 0 ∷ []) (ok ∷ ok ∷ []) d9
     ∷ from d9 (delivers0 1 ∷ []) (ok ∷ []) d9-agent
-    -- D10
+    -- D10: of two wrong numbers, the lock's is answered
     ∷ from freshLock (AcquireCall (on 8) (machine 0) (record { 0 = 0 }) 1 ∷ []) (Refused LockRange ∷ []) freshLock
     -- the tempting faults
     ∷ from d3 (delivers0 1 ∷ delivers0 2 ∷ []) (ok ∷ ok ∷ []) f-marked

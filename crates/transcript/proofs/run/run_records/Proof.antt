@@ -7,7 +7,8 @@ use lib.ListN.{length}
 use borrow.Author.Needs.{needs}
 use Rattle.laws.specs.Formed.{ready}
 use Rattle.rules.specs.Plans.{plan-accepts, plan-refuses}
-use Rattle.transcript.specs.Run.{Progress, progress-start, progress-lock, progress-step, progress-refused, progress-skip, progress-bad, progress-end, record-ends}
+use Rattle.transcript.specs.Run.{Progress, progress-start, progress-lock, progress-step, progress-refused, progress-skip, progress-bad, progress-end}
+use Rattle.transcript.specs.Run.{record-ends}
 use Rattle.transcript.proofs.run.run_records.Statement.{statement}
 use Rattle.transcript.proofs.run.run_records.Tie as tie
 
