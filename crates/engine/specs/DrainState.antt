@@ -1,13 +1,14 @@
 -- The drain of one lock's state, by the same steps as the drain of a cluster, without its calls' tests.
 use mathlib.Core.Path.{_≡_, refl, sym, ap, _∙_}
-use mathlib.Core.Bool.{Bool, true, false, true≢false, false≢true}
+use mathlib.Core.Bool.{true, false, true≢false}
 use mathlib.Core.List.{List, [], _∷_}
 use Prim.Native.Nat.{ℕ, zero, suc, _+_, _-_, _*_, _/_, _%_, _<_, _≤_}
 use native.Mathlib.Omega.{arith}
 use native.Mathlib.Numerals.{add-one, sub-one}
 use lib.ListN.{length, drop, getD, set, drop-of-length-le}
 use lib.Seq.{set-set, set-getD, getD-set-same, drop-cons}
-use borrow.Author.Tests.{lt-leb, le-leb}
+use lib.Dec.{ltb}
+use borrow.Author.Tests.{lt-leb, le-leb, lt-ltb, le-ltb}
 use Rattle.model.specs.Lists.{pick}
 use Rattle.engine.specs.Names.{LockId, Packet, ClientState, LockState, Cluster, Call, ReleaseCall, DeliverCall, Refusal, Malformed, LockRange}
 use Rattle.engine.specs.Names.{NotQuiescent, Answer, Accepted, Refused, Stepped}
@@ -15,8 +16,9 @@ use Rattle.model.specs.States.{locks, tasks, clients, packets, lockIn, freshLoc
 use Rattle.model.specs.WellFormed.{lockFormed, wellFormed}
 use Rattle.model.specs.Refusals.{first}
 use Rattle.model.specs.Calls.{isHolding, releaseStep, deliverStep, settled, perform}
-use Rattle.model.specs.Drain.{allowance, Next, none, some, releaseFirst, nextOf, nextCall, Drainage, ending, drainage, drainRefused, drainEnded, drainUnless}
-use Rattle.model.specs.Drain.{drain}
+use Rattle.model.specs.Drain.{allowance, Next, none, some, releaseFirst, nextOf, nextCall, Drainage, ending, drainage, drainRefused, drainEnded}
+use Rattle.model.specs.Drain.{drainUnless, drain}
+use Rattle.laws.specs.Tests.{bool-cases, pick-yes, pick-no}
 use Rattle.laws.specs.Formed.{all-locks, parts, ready}
 use Rattle.laws.specs.Shapes.{length-packets}
 use Rattle.laws.specs.CallSteps.{stepOf}
@@ -25,6 +27,7 @@ use Rattle.laws.specs.FormedStep.{release-formed, deliver-formed}
 use Rattle.laws.specs.Next.{next-is, Goes, goes}
 use Rattle.rules.specs.declared.plan.Plan.{Plan}
 use Rattle.rules.specs.Plans.{Plans, carriedOut, plan-accepts, plan-refuses}
+use Rattle.engine.specs.LockCalls.{lock-read}
 use Rattle.engine.specs.declared.draining.Draining.{Draining}
 
 abbrev pub endedWith : Answer → Draining → Draining
@@ -126,17 +129,18 @@ agree (suc left) x l w h = go (nextCall l (lockIn x l)) refl (λ y v. agree left
     go none e ih = rw (e, drainage, drainState) (agree-here (suc left) x l Accepted)
     go (some c) e ih = by-step c (goes l x c w h (next-is l (lockIn x l) c e)) e (stepOf c (lockIn x l) .answer) refl ih
 
--- what the drain gives, by how that of the lock's state ended
-module _ (x : Cluster) (l : LockId) (w : wellFormed x ≡ true) (h : l .0 < locks) {s : LockState} (e : s ≡ lockIn x l) {v : Draining} (q : v ≡ drainState allowance l s) where
+-- what the drain gives, by how that of the lock's state, read with any default, ended
+module _ (x : Cluster) (l : LockId) (d : LockState) (g : (wellFormed x ≡ true) × (l .0 < locks)) {v : Draining}
+    (q : v ≡ drainState allowance l (getD (x .locks) (l .0) d)) where
   agreed : Agree allowance x l (drainage allowance l x) v
-  agreed = rw (q, e) (agree allowance x l w h)
+  agreed = rw (q, lock-read x l d (g .0) (g .1)) (agree allowance x l (g .0) (g .1))
 
   pub made : length (drainage allowance l x .calls) + v .left ≡ allowance
   made = agreed .count
 
   drain-by : drain x l ≡ drainEnded (v .answer) x (drainage allowance l x)
   unfolding drain drainUnless first
-  drain-by = rw (w, lt-leb locks (l .0) h) (ap (λ (r : Answer). drainEnded r x (drainage allowance l x)) (agreed .answer))
+  drain-by = rw (g .0, lt-leb locks (l .0) (g .1)) (ap (λ (r : Answer). drainEnded r x (drainage allowance l x)) (agreed .answer))
 
   pub drain-ends : v .answer ≡ Accepted → record { answer = Accepted; count = allowance - v .left; cluster = placed x l (v .state) } ≡ drain x l
   unfolding drainEnded
@@ -164,54 +168,30 @@ holderFrom n [] = n
 holderFrom n (c ∷ cs) = pick (isHolding (c .status)) n (holderFrom (suc n) cs)
 
 -- a loop over all of xs keeps `holderFrom j (drop j xs)`
-module _ (xs : List ClientState) (j : ℕ) (d : ClientState) where
-  pub holder-here : j < length xs → isHolding (getD xs j d .status) ≡ true → holderFrom j (drop j xs) ≡ j
+module _ (xs : List ClientState) (j : ℕ) (d : ClientState) {n : ℕ} (i : holderFrom j (drop j xs) ≡ n) where
+  pub holder-here : j < length xs → isHolding (getD xs j d .status) ≡ true → j ≡ n
   unfolding holderFrom
-  holder-here h e = rw (drop-cons xs j d, e)
+  holder-here h e = rw (drop-cons xs j d, e) at i
 
-  pub holder-next : j < length xs → isHolding (getD xs j d .status) ≡ false → holderFrom (j + 1) (drop (j + 1) xs) ≡ holderFrom j (drop j xs)
+  pub holder-next : j < length xs → isHolding (getD xs j d .status) ≡ false → holderFrom (j + 1) (drop (j + 1) xs) ≡ n
   unfolding holderFrom
-  holder-next h e = rw (add-one, drop-cons xs j d, e)
+  holder-next h e = rw add-one (rw (drop-cons xs j d, e) at i)
 
-  pub holder-end : length xs ≤ j → holderFrom j (drop j xs) ≡ j
+  pub holder-end : length xs ≤ j → j ≡ n
   unfolding holderFrom
-  holder-end h = rw drop-of-length-le
-
-holder-below : (n : ℕ) (cs : List ClientState) → n ≤ holderFrom n cs
-unfolding holderFrom
-holder-below n [] = omega arith
-holder-below n (c ∷ cs) = go (isHolding (c .status)) (holder-below (suc n) cs)
-  where
-    go : (b : Bool) → suc n ≤ holderFrom (suc n) cs → n ≤ pick b n (holderFrom (suc n) cs)
-    go true h = omega arith
-    go false h = omega arith
+  holder-end h = rw drop-of-length-le at i
 
 -- the release by the client of that number
 abbrev pub releaseBy : LockId → ℕ → Call
 releaseBy l c = ReleaseCall l (record { 0 = c / tasks }) (record { 0 = c % tasks })
 
-holder-found : (l : LockId) (n : ℕ) (cs : List ClientState) → holderFrom n cs < n + length cs
-    → releaseFirst l n cs ≡ some (releaseBy l (holderFrom n cs))
+holder-is : (l : LockId) (n : ℕ) (cs : List ClientState)
+    → releaseFirst l n cs ≡ pick (ltb (holderFrom n cs) (n + length cs)) (some (releaseBy l (holderFrom n cs))) none
 unfolding releaseFirst holderFrom
-holder-found l n [] h = absurd (omega arith)
-holder-found l n (c ∷ cs) h = go (isHolding (c .status)) h (holder-found l (suc n) cs)
-  where
-    go : (b : Bool) → pick b n (holderFrom (suc n) cs) < n + suc (length cs)
-        → (holderFrom (suc n) cs < suc n + length cs → releaseFirst l (suc n) cs ≡ some (releaseBy l (holderFrom (suc n) cs)))
-        → pick b (some (releaseBy l n)) (releaseFirst l (suc n) cs)
-        ≡ some (releaseBy l (pick b n (holderFrom (suc n) cs)))
-    go true h ih = refl
-    go false h ih = ih (omega arith)
-
-holder-none : (l : LockId) (n : ℕ) (cs : List ClientState) → n + length cs ≤ holderFrom n cs → releaseFirst l n cs ≡ none
-unfolding releaseFirst holderFrom
-holder-none l n [] h = refl
-holder-none l n (c ∷ cs) h = go (isHolding (c .status)) h (holder-none l (suc n) cs)
-  where
-    go : (b : Bool) → n + suc (length cs) ≤ pick b n (holderFrom (suc n) cs) → (suc n + length cs ≤ holderFrom (suc n) cs → releaseFirst l (suc n) cs ≡ none)
-        → pick b (some (releaseBy l n)) (releaseFirst l (suc n) cs) ≡ none
-    go true h ih = absurd (omega arith)
-    go false h ih = ih (omega arith)
+holder-is l n [] = rw (le-ltb n (n + 0) (omega arith))
+holder-is l n (c ∷ cs) =
+    let e : n + suc (length cs) ≡ suc n + length cs = omega arith in
+    bool-cases (isHolding (c .status)) (λ q. rw (q, lt-ltb n (n + suc (length cs)) (omega arith))) (λ q. rw (q, e) (holder-is l (suc n) cs))
 
 module _ (l : LockId) (s : LockState) where
   pub next-delivers : 0 < length (packets (s .wire)) → nextCall l s ≡ some (DeliverCall l 0)
@@ -229,10 +209,10 @@ module _ (l : LockId) (s : LockState) where
 
   pub next-releases : length (packets (s .wire)) ≡ 0 → holderFrom 0 (s .clients) < length (s .clients)
       → nextCall l s ≡ some (releaseBy l (holderFrom 0 (s .clients)))
-  next-releases e h = no-packets (packets (s .wire)) e ∙ holder-found l 0 (s .clients) (omega arith)
+  next-releases e h = no-packets (packets (s .wire)) e ∙ holder-is l 0 (s .clients) ∙ pick-yes _ (lt-ltb _ (0 + length (s .clients)) (omega arith))
 
   pub next-none : length (packets (s .wire)) ≡ 0 → length (s .clients) ≤ holderFrom 0 (s .clients) → nextCall l s ≡ none
-  next-none e h = no-packets (packets (s .wire)) e ∙ holder-none l 0 (s .clients) (omega arith)
+  next-none e h = no-packets (packets (s .wire)) e ∙ holder-is l 0 (s .clients) ∙ pick-no _ (le-ltb _ (0 + length (s .clients)) (omega arith))
 
   -- the step of the release that the drain makes
   pub release-of : (c : ℕ) → stepOf (releaseBy l c) s ≡ releaseStep s (record { 0 = c })
@@ -251,18 +231,29 @@ pub record Progress (e d : Draining) : Type 0 where
   pub formed : lockFormed (d .state) ≡ true
   pub fewer : d .left ≤ e .left
 
-module _ {d : Draining} (o : Open d) where
-  pub progress-start : Progress d d
-  progress-start = record { goes = λ e l. refl; stops = λ e. absurd (true≢false (sym e ∙ o .goes)); formed = o .formed; fewer = omega arith }
+-- and goes on
+abbrev pub Along : Draining → Draining → Type 0
+Along e d = (Open d) × (Progress e d)
 
-  pub progress-more : {e r : Draining} → Progress e d → Progress d r → Progress e r
-  progress-more g n =
+pub along-start : {d : Draining} → Open d → Along d d
+along-start o =
+    (o, record { goes = λ e l. refl; stops = λ e. absurd (true≢false (sym e ∙ o .goes)); formed = o .formed; fewer = omega arith })
+
+pub still-open : {e d : Draining} → Progress e d → d .ended ≡ false → Open d
+still-open n z = record { goes = z; formed = n .formed }
+
+module _ {e d r : Draining} (g : Along e d) (n : Progress d r) where
+  pub along-more : Progress e r
+  along-more =
       record {
-        goes = λ z l. n .goes z l ∙ g .goes (o .goes) l;
-        stops = λ z l. n .stops z l ∙ g .goes (o .goes) l;
+        goes = λ z l. n .goes z l ∙ g .1 .goes (g .0 .goes) l;
+        stops = λ z l. n .stops z l ∙ g .1 .goes (g .0 .goes) l;
         formed = n .formed;
-        fewer = omega (arith, g .fewer, n .fewer);
+        fewer = omega (arith, g .1 .fewer, n .fewer);
       }
+
+  pub along-next : r .ended ≡ false → Along e r
+  along-next z = (still-open n z, along-more)
 
 -- p plans the drain's next step on t, after which the state is well formed
 pub record Planned (t : LockState) (p : Plan) : Type 0 where
@@ -305,35 +296,42 @@ module _ (t : LockState) (f : lockFormed t ≡ true) where
     pub none-holds : clients ≤ d → (l : LockId) → nextCall l t ≡ none
     none-holds h l = next-none l t (wire-length ∙ e) (omega (arith, parts t f .all-clients))
 
-module _ {d : Draining} (o : Open d) where
-  progress-ends : (a : Answer) → ((l : LockId) → endedWith a d ≡ drainOn l d) → Progress d (endedWith a d)
-  progress-ends a q = record { goes = λ z. absurd (true≢false z); stops = λ z. q; formed = o .formed; fewer = omega arith }
+-- r goes on from d by a step, or has ended
+abbrev pub Stepping : Draining → Draining → Type 0
+Stepping d r = (Progress d r) × (r .ended ≡ false → r .left < d .left)
 
-  pub progress-quiescent : ((l : LockId) → nextCall l (d .state) ≡ none) → Progress d (endedWith Accepted d)
+module _ {d : Draining} (o : Open d) where
+  progress-ends : (a : Answer) → ((l : LockId) → endedWith a d ≡ drainOn l d) → Stepping d (endedWith a d)
+  progress-ends a q =
+      (record { goes = λ z. absurd (true≢false z); stops = λ z. q; formed = o .formed; fewer = omega arith }, λ z. absurd (true≢false z))
+
+  pub progress-quiescent : ((l : LockId) → nextCall l (d .state) ≡ none) → Stepping d (endedWith Accepted d)
   progress-quiescent n = progress-ends Accepted (λ l. state-quiescent l (d .state) (d .left) (n l))
 
-  module _ {p : Plan} (n : Planned (d .state) p) where
-    pub progress-spent : d .left ≡ 0 → Progress d (endedWith (Refused NotQuiescent) d)
-    progress-spent z = progress-ends (Refused NotQuiescent) (λ l. rw z (state-spent l (d .state) (n .call l) (n .next l)))
+module _ {d : Draining} {p : Plan} (g : (Open d) × (Planned (d .state) p)) where
+  pub progress-spent : d .left ≡ 0 → Stepping d (endedWith (Refused NotQuiescent) d)
+  progress-spent z = progress-ends (g .0) (Refused NotQuiescent) (λ l. rw z (state-spent l (d .state) (g .1 .call l) (g .1 .next l)))
 
-    -- the step answers what the plan does
-    answers : (a : Answer) → n .gives .answer ≡ a → (l : LockId) → stepOf (n .call l) (d .state) .answer ≡ a
-    answers a q l = rw (n .step l) q
+  -- the step answers what the plan does
+  answers : (a : Answer) → g .1 .gives .answer ≡ a → (l : LockId) → stepOf (g .1 .call l) (d .state) .answer ≡ a
+  answers a q l = rw (g .1 .step l) q
 
-    module _ (h : 0 < d .left) where
-      pub progress-refused : (r : Refusal) → p .answer ≡ Refused r → Progress d (endedWith (Refused r) d)
-      progress-refused r q =
-          let a = answers (Refused r) (ap (λ (t : Stepped). t .answer) (sym (plan-refuses (n .plans) r q))) in
-          progress-ends (Refused r) (λ l. state-refuses l (d .state) (n .call l) (n .next l) (d .left) r h (a l))
+  module _ (h : d .left ≡ 0 → ⊥) where
+    pub progress-refused : (r : Refusal) → p .answer ≡ Refused r → Stepping d (endedWith (Refused r) d)
+    progress-refused r q =
+        let a = answers (Refused r) (ap (λ (t : Stepped). t .answer) (sym (plan-refuses (g .1 .plans) r q))) in
+        progress-ends (g .0) (Refused r) (λ l. state-refuses l (d .state) (g .1 .call l) (g .1 .next l) (d .left) r (omega (arith, h)) (a l))
 
-      pub progress-on : p .answer ≡ Accepted → Progress d (record { ended = d .ended; answer = d .answer; left = d .left - 1; state = carriedOut p (d .state) })
-      progress-on q =
-          let t = plan-accepts (n .plans) q in
-          let a = answers Accepted (ap (λ (t : Stepped). t .answer) (sym t)) in
-          rw (ap (λ (t : Stepped). t .state) t)
-          (record {
-            goes = λ z l. rw (n .step l) at (state-goes l (d .state) (n .call l) (n .next l) (d .left) h (a l));
-            stops = λ z. absurd (true≢false (sym z ∙ o .goes));
-            formed = n .formed;
+    pub progress-on : p .answer ≡ Accepted → Stepping d (record { ended = d .ended; answer = d .answer; left = d .left - 1; state = carriedOut p (d .state) })
+    progress-on q =
+        let t = plan-accepts (g .1 .plans) q in
+        let a = answers Accepted (ap (λ (t : Stepped). t .answer) (sym t)) in
+        rw (ap (λ (t : Stepped). t .state) t) (
+          record {
+            goes = λ z l. rw (g .1 .step l) at (state-goes l (d .state) (g .1 .call l) (g .1 .next l) (d .left) (omega (arith, h)) (a l));
+            stops = λ z. absurd (true≢false (sym z ∙ g .0 .goes));
+            formed = g .1 .formed;
             fewer = omega arith;
-          })
+          },
+          λ z. omega (arith, h),
+        )

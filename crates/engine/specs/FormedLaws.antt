@@ -14,11 +14,17 @@ use Rattle.model.specs.Lists.{any, all}
 use Rattle.model.specs.States.{clients}
 use Rattle.model.specs.WellFormed.{shaped, isClient, distinct, waiterInRange}
 use Rattle.laws.specs.Tests.{and-left, and-right, bool-cases}
-use Rattle.parts.specs.Scans.{used-more, used-end}
+use Rattle.parts.specs.Scans.{used-more, used-end, Joins, joins-all}
 
-pub shaped-short : {A : Type 0} (n : ℕ) (p : A → Bool) (slots : List A) (len : ℕ) → shaped n p slots len ≡ true → len ≤ n
+-- r: the test's outcome in the code
+pub shaped-short : {A : Type 0} (n : ℕ) (p : A → Bool) (slots : List A) (len : ℕ) {r : Bool} → r ≡ shaped n p slots len → r ≡ true → len ≤ n
 unfolding shaped
-shaped-short n p slots len e = leb-true len n (and-left (leb len n) _ (and-right (eqb (length slots) n) _ e))
+shaped-short n p slots len q e = leb-true len n (and-left (leb len n) _ (and-right (eqb (length slots) n) _ (sym q ∙ e)))
+
+-- a loop that joined the tests of all of an array
+pub joins-whole : {A : Type 0} {p : A → Bool} {xs : List A} {ok₀ ok : Bool} {j₀ j n : ℕ} → Joins p xs ok₀ j₀ ok j → length xs ≡ n → n ≤ j
+    → ok ≡ (eqb (length xs) n && (ok₀ && all p (drop j₀ xs)))
+joins-whole i e h = rw (eq-eqb _ _ e) (joins-all i (omega arith))
 
 -- the waiter's client is not in the set
 abbrev pub isNew : List Bool → Waiter → Bool
@@ -42,7 +48,8 @@ and-swap true b s a = refl
 and-swap false true s a = and-false s
 and-swap false false s a = refl
 
-all-new-more : (seen : List Bool) (c : ClientId) (ws : List Waiter) → c .0 < length seen → all (isNew (set seen (c .0) true)) ws ≡ (not (any (isClient c) ws) && all (isNew seen) ws)
+all-new-more : (seen : List Bool) (c : ClientId) (ws : List Waiter) → c .0 < length seen
+    → all (isNew (set seen (c .0) true)) ws ≡ (not (any (isClient c) ws) && all (isNew seen) ws)
 all-new-more seen c [] h = refl
 all-new-more seen c (w ∷ ws) h =
     rw (new-more seen c w h, all-new-more seen c ws h) (and-swap (isClient c w) (any (isClient c) ws) (isNew seen w) (all (isNew seen) ws))
@@ -79,20 +86,21 @@ all-unseen (w ∷ ws) = rw (none-seen clients (w .client .0)) (all-unseen ws)
 pub pass-whole : (ws : List Waiter) → allNew (replicate clients false) ws ≡ (all waiterInRange ws && distinct ws)
 pass-whole ws = rw (one-pass (replicate clients false) ws refl, all-unseen ws, and-true (distinct ws))
 
--- the steps of the pass over the first n
-module _ (xs : List Waiter) (n j : ℕ) (d : Waiter) (k : n ≤ length xs) (seen : List Bool) where
-  pub pass-far : j < n → clients ≤ getD xs j d .client .0 → allNew seen (drop j (take n xs)) ≡ false
+-- a loop over the first n keeps `allNew seen (drop j (take n xs))`
+module _ (xs : List Waiter) (n j : ℕ) (d : Waiter) (seen : List Bool) {b : Bool} (i : allNew seen (drop j (take n xs)) ≡ b) (k : n ≤ length xs) where
+  pub pass-far : j < n → clients ≤ getD xs j d .client .0 → false ≡ b
   unfolding allNew
-  pass-far h q = rw (used-more xs n j d k h, le-ltb (getD xs j d .client .0) clients q)
+  pass-far h q = rw (used-more xs n j d k h, le-ltb (getD xs j d .client .0) clients q) at i
 
-  pub pass-twice : j < n → getD xs j d .client .0 < clients → getD seen (getD xs j d .client .0) false ≡ true → allNew seen (drop j (take n xs)) ≡ false
-  unfolding allNew
-  pass-twice h q e = rw (used-more xs n j d k h, lt-ltb (getD xs j d .client .0) clients q, e)
+  module _ (h : j < n) (q : getD xs j d .client .0 < clients) where
+    pub pass-twice : getD seen (getD xs j d .client .0) false ≡ true → false ≡ b
+    unfolding allNew
+    pass-twice e = rw (used-more xs n j d k h, lt-ltb (getD xs j d .client .0) clients q, e) at i
 
-  pub pass-next : j < n → getD xs j d .client .0 < clients → getD seen (getD xs j d .client .0) false ≡ false → allNew (set seen (getD xs j d .client .0) true) (drop (j + 1) (take n xs)) ≡ allNew seen (drop j (take n xs))
-  unfolding allNew
-  pass-next h q e = rw (used-more xs n j d k h, lt-ltb (getD xs j d .client .0) clients q, e)
+    pub pass-next : getD seen (getD xs j d .client .0) false ≡ false → allNew (set seen (getD xs j d .client .0) true) (drop (j + 1) (take n xs)) ≡ b
+    unfolding allNew
+    pass-next e = rw (used-more xs n j d k h, lt-ltb (getD xs j d .client .0) clients q, e) at i
 
-  pub pass-end : n ≤ j → allNew seen (drop j (take n xs)) ≡ true
+  pub pass-end : n ≤ j → true ≡ b
   unfolding allNew
-  pass-end h = rw (used-end xs n j d k h)
+  pass-end h = rw (used-end xs n j d k h) at i

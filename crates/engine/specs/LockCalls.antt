@@ -60,9 +60,9 @@ unfoldable pub deliverOn : LockState → ℕ → Stepped
 deliverOn s i = stepUnless (first (deliverTests s i)) s (deliverStep s i)
 
 -- ---- a cause that does not hold
-pub first-no : (n : Refusal) {b : Bool} (cs : List Cause) → b ≡ false → first ((n when b) ∷ cs) ≡ first cs
+pub first-no : (n : Refusal) {b : Bool} (cs : List Cause) {a : Answer} → b ≡ false → a ≡ first cs → a ≡ first ((n when b) ∷ cs)
 unfolding first
-first-no n cs e = rw e
+first-no n cs e h = rw e h
 
 pub all-no : (n : Refusal) (b : Bool) (cs : List Cause) → first ((n when b) ∷ cs) ≡ Accepted → (b ≡ false) × (first cs ≡ Accepted)
 unfolding first
@@ -84,81 +84,31 @@ lock-read x l d e h = getD-any (x .locks) (l .0) d freshLock (omega (arith, all-
 pub read-formed : (x : Cluster) (l : LockId) (d : LockState) → wellFormed x ≡ true → l .0 < locks → lockFormed (getD (x .locks) (l .0) d) ≡ true
 read-formed x l d e h = rw (lock-read x l d e h) (lock-formed x l e h)
 
--- ---- a call is its tests on the cluster, and then the step on one lock
-unless-on : (a : Answer) (x : Cluster) (l : LockId) (s : LockState) (r : Stepped)
-    → unless a x l r ≡ settled (stepUnless a s r .answer) x l (stepUnless a s r .state)
-unfolding unless settled stepUnless
-unless-on Accepted x l s r = refl
-unless-on (Refused n) x l s r = refl
+-- ---- a call as data: its tests on the cluster, those on its lock's state, and then its step
+abbrev pub testsOf : Call → LockState → List Cause
+testsOf (AcquireCall l k t m) s = acquireTests s k t m
+testsOf (ReleaseCall l k t) s = releaseTests s k t
+testsOf (DeliverCall l i) s = deliverTests s i
 
-module _ (x : Cluster) (l : LockId) where
-  abbrev causes : List Cause → List Cause
-  causes cs = (Malformed when not (wellFormed x)) ∷ (LockRange when leb locks (l .0)) ∷ cs
-
-  malformed : (cs : List Cause) (r : Stepped) → wellFormed x ≡ false → unless (first (causes cs)) x l r ≡ refusing Malformed x
-  unfolding unless first
-  malformed cs r e = rw e
-
-  out-of-range : (cs : List Cause) (r : Stepped) → wellFormed x ≡ true → locks ≤ l .0 → unless (first (causes cs)) x l r ≡ refusing LockRange x
-  unfolding unless first
-  out-of-range cs r e h = rw (e, le-leb locks (l .0) h)
-
-  entered : (cs : List Cause) (s : LockState) (r : Stepped) → wellFormed x ≡ true → l .0 < locks
-      → unless (first (causes cs)) x l r ≡ settled (stepUnless (first cs) s r .answer) x l (stepUnless (first cs) s r .state)
-  unfolding first
-  entered cs s r e h = rw (e, lt-leb locks (l .0) h) (unless-on (first cs) x l s r)
-
-  acquire-on : (k : MachineId) (t : TaskId) (m : ℕ) → wellFormed x ≡ true → l .0 < locks
-      → acquire x l k t m ≡ settled (acquireOn (lockIn x l) k t m .answer) x l (acquireOn (lockIn x l) k t m .state)
-  unfolding acquire acquireOn
-  acquire-on k t m e h = entered _ (lockIn x l) _ e h
-
-  release-on : (k : MachineId) (t : TaskId) → wellFormed x ≡ true → l .0 < locks
-      → release x l k t ≡ settled (releaseOn (lockIn x l) k t .answer) x l (releaseOn (lockIn x l) k t .state)
-  unfolding release releaseOn
-  release-on k t e h = entered _ (lockIn x l) _ e h
-
-  deliver-on : (i : ℕ) → wellFormed x ≡ true → l .0 < locks
-      → deliver x l i ≡ settled (deliverOn (lockIn x l) i .answer) x l (deliverOn (lockIn x l) i .state)
-  unfolding deliver deliverOn
-  deliver-on i e h = entered _ (lockIn x l) _ e h
-
--- ---- a call as data on its lock's state
 unfoldable pub callOn : Call → LockState → Stepped
-callOn (AcquireCall l k t m) s = acquireOn s k t m
-callOn (ReleaseCall l k t) s = releaseOn s k t
-callOn (DeliverCall l i) s = deliverOn s i
+callOn c s = stepUnless (first (testsOf c s)) s (stepOf c s)
 
-perform-on : (c : Call) (x : Cluster) → wellFormed x ≡ true → lockOf c .0 < locks
-    → perform c x ≡ settled (callOn c (lockIn x (lockOf c)) .answer) x (lockOf c) (callOn c (lockIn x (lockOf c)) .state)
-unfolding perform callOn
-perform-on (AcquireCall l k t m) x e h = acquire-on x l k t m e h
-perform-on (ReleaseCall l k t) x e h = release-on x l k t e h
-perform-on (DeliverCall l i) x e h = deliver-on x l i e h
+abbrev causesOf : Call → Cluster → List Cause
+causesOf c x = (Malformed when not (wellFormed x)) ∷ (LockRange when leb locks (lockOf c .0)) ∷ testsOf c (lockIn x (lockOf c))
+
+perform-by : (c : Call) (x : Cluster) → perform c x ≡ unless (first (causesOf c x)) x (lockOf c) (stepOf c (lockIn x (lockOf c)))
+unfolding perform acquire release deliver
+perform-by (AcquireCall l k t m) x = refl
+perform-by (ReleaseCall l k t) x = refl
+perform-by (DeliverCall l i) x = refl
 
 pub perform-malformed : (c : Call) (x : Cluster) → wellFormed x ≡ false → perform c x ≡ refusing Malformed x
-unfolding perform acquire release deliver
-perform-malformed (AcquireCall l k t m) x e = malformed x l _ _ e
-perform-malformed (ReleaseCall l k t) x e = malformed x l _ _ e
-perform-malformed (DeliverCall l i) x e = malformed x l _ _ e
+unfolding unless first
+perform-malformed c x e = rw (perform-by c x) (rw e)
 
 pub perform-range : (c : Call) (x : Cluster) → wellFormed x ≡ true → locks ≤ lockOf c .0 → perform c x ≡ refusing LockRange x
-unfolding perform acquire release deliver
-perform-range (AcquireCall l k t m) x e h = out-of-range x l _ _ e h
-perform-range (ReleaseCall l k t) x e h = out-of-range x l _ _ e h
-perform-range (DeliverCall l i) x e h = out-of-range x l _ _ e h
-
--- a refused call leaves its lock's state
-unless-refused : (a : Answer) (s : LockState) (c : Call) (r : Refusal) → stepUnless a s (stepOf c s) .answer ≡ Refused r → stepUnless a s (stepOf c s) .state ≡ s
-unfolding stepUnless
-unless-refused Accepted s c r e = step-refused c s r e
-unless-refused (Refused n) s c r e = refl
-
-on-refused : (c : Call) (s : LockState) (r : Refusal) → callOn c s .answer ≡ Refused r → callOn c s .state ≡ s
-unfolding callOn acquireOn releaseOn deliverOn
-on-refused (AcquireCall l k t m) s r e = unless-refused (first (acquireTests s k t m)) s (AcquireCall l k t m) r e
-on-refused (ReleaseCall l k t) s r e = unless-refused (first (releaseTests s k t)) s (ReleaseCall l k t) r e
-on-refused (DeliverCall l i) s r e = unless-refused (first (deliverTests s i)) s (DeliverCall l i) r e
+unfolding unless first
+perform-range c x e h = rw (perform-by c x) (rw (e, le-leb locks (lockOf c .0) h))
 
 -- A call writes its lock's state in its place, accepted or refused.
 abbrev pub writtenBy : Call → Cluster → Cluster
@@ -166,25 +116,38 @@ writtenBy c x = record { locks = set (x .locks) (lockOf c .0) (callOn c (lockIn 
 
 pub perform-whole : (c : Call) (x : Cluster) → wellFormed x ≡ true → lockOf c .0 < locks
     → perform c x ≡ record { answer = callOn c (lockIn x (lockOf c)) .answer; cluster = writtenBy c x }
-unfolding settled
-perform-whole c x e h = rw (perform-on c x e h) (go (callOn c (lockIn x (lockOf c)) .answer) refl)
+unfolding unless settled first callOn stepUnless
+perform-whole c x e h = rw (perform-by c x) (rw (e, lt-leb locks (lockOf c .0) h) (tested (first (testsOf c s))))
   where
-    go : (a : Answer) → callOn c (lockIn x (lockOf c)) .answer ≡ a
-        → settled a x (lockOf c) (callOn c (lockIn x (lockOf c)) .state) ≡ record { answer = a; cluster = writtenBy c x }
-    go Accepted q = refl
-    go (Refused r) q = rw (on-refused c (lockIn x (lockOf c)) r q, set-getD (x .locks) (lockOf c .0) freshLock)
+    s : LockState
+    s = lockIn x (lockOf c)
 
--- the call by its plan on t, the state of its lock l: written where it accepts, the cluster left where it refuses
-module _ (c : Call) (x : Cluster) (w : wellFormed x ≡ true) {l : LockId} (h : l .0 < locks) (q : l ≡ lockOf c) {t : LockState} (e : t ≡ lockIn x l)
-    {p : Plan} (g : Plans p t (callOn c t)) where
-  whole : perform c x ≡ record { answer = callOn c t .answer; cluster = record { locks = set (x .locks) (l .0) (callOn c t .state) } }
-  whole = rw (e, q) (perform-whole c x w (rw q at h))
+    written : Stepped → Outcome
+    written r = record { answer = r .answer; cluster = record { locks = set (x .locks) (lockOf c .0) (r .state) } }
 
-  pub perform-accepts : p .answer ≡ Accepted → record { answer = p .answer; cluster = record { locks = set (x .locks) (l .0) (carriedOut p t) } } ≡ perform c x
+    stepped : (a : Answer) → stepOf c s .answer ≡ a → settled a x (lockOf c) (stepOf c s .state) ≡ written (record { answer = a; state = stepOf c s .state })
+    stepped Accepted q = refl
+    stepped (Refused r) q = rw (step-refused c s r q, set-getD (x .locks) (lockOf c .0) freshLock)
+
+    tested : (a : Answer) → unless a x (lockOf c) (stepOf c s) ≡ written (stepUnless a s (stepOf c s))
+    tested Accepted = stepped (stepOf c s .answer) refl
+    tested (Refused n) = rw (set-getD (x .locks) (lockOf c .0) freshLock)
+
+-- the call by its plan on the state of its lock l, read with any default: written where it accepts, the cluster left where it refuses
+module _ (c : Call) (x : Cluster) (l : LockId) (d : LockState) (f : (wellFormed x ≡ true) × ((l .0 < locks) × (l ≡ lockOf c))) {p : Plan}
+    (g : Plans p (getD (x .locks) (l .0) d) (callOn c (getD (x .locks) (l .0) d))) where
+  abbrev read : LockState
+  read = getD (x .locks) (l .0) d
+
+  whole : perform c x ≡ record { answer = callOn c read .answer; cluster = record { locks = set (x .locks) (l .0) (callOn c read .state) } }
+  whole = rw (lock-read x l d (f .0) (f .1 .0), f .1 .1) (perform-whole c x (f .0) (rw (f .1 .1) at (f .1 .0)))
+
+  pub perform-accepts : p .answer ≡ Accepted
+      → record { answer = p .answer; cluster = record { locks = set (x .locks) (l .0) (carriedOut p read) } } ≡ perform c x
   perform-accepts a = rw (a, whole, ← plan-accepts g a)
 
   pub perform-refuses : (n : Refusal) → p .answer ≡ Refused n → record { answer = p .answer; cluster = x } ≡ perform c x
-  perform-refuses n a = rw (a, whole, ← plan-refuses g n a) (rw (e, set-getD (x .locks) (l .0) freshLock))
+  perform-refuses n a = rw (a, whole, ← plan-refuses g n a) (rw (lock-read x l d (f .0) (f .1 .0), set-getD (x .locks) (l .0) freshLock))
 
 pub perform-written : (c : Call) (x : Cluster) → wellFormed x ≡ true → lockOf c .0 < locks → perform c x .cluster ≡ writtenBy c x
 perform-written c x e h = ap (λ (o : Outcome). o .cluster) (perform-whole c x e h)

@@ -2,8 +2,5 @@ use Rattle.engine.proofs.Base.{needs, _≡_, clients, length}
 use Rattle.engine.proofs.formed.has_all_holders.Statement.{statement}
 use Rattle.engine.proofs.formed.has_all_holders.Tie as tie
 
-returns : tie.Need-returns
-returns c = let n : length (c .args .h) ≡ clients = search needs in rw n
-
 pub has-all-holders-spec : {M : Type 1} → statement M
-has-all-holders-spec = tie.close (tie.spec returns)
+has-all-holders-spec = tie.close (tie.spec (λ c. let n : length (c .args .h) ≡ clients = search needs in rw n))

@@ -2,9 +2,7 @@ use Rattle.engine.proofs.Base.{needs, isBlankPacket}
 use Rattle.engine.proofs.formed.is_blank_packet.Statement.{statement}
 use Rattle.engine.proofs.formed.is_blank_packet.Tie as tie
 
-returns : tie.Need-returns
-unfolding isBlankPacket
-returns c = rw (c .before .before .before .before .is-free .ensures, c .before .before .before .to-decider .ensures, c .before .before .is-blank-agent .ensures)
-
 pub is-blank-packet-spec : {M : Type 1} → statement M
-is-blank-packet-spec = tie.close (tie.spec (λ c κs. search needs) (λ c κs. search needs) (λ c κs. search needs) returns)
+unfolding isBlankPacket
+is-blank-packet-spec = tie.close (tie.spec (search needs) (search needs) (search needs)
+    (λ c. let b = c .before .before in rw (b .before .before .is-free .ensures, b .before .to-decider .ensures, b .is-blank-agent .ensures)))

@@ -2,8 +2,5 @@ use Rattle.engine.proofs.Base.{needs}
 use Rattle.engine.proofs.formed.owner_in_range.Statement.{statement}
 use Rattle.engine.proofs.formed.owner_in_range.Tie as tie
 
-returns-2 : tie.Need-returns-2
-returns-2 c = rw (c .before .before .o .given .1)
-
 pub owner-in-range-spec : {M : Type 1} → statement M
-owner-in-range-spec = tie.close (tie.spec (λ c. search needs) (λ c. search needs) (λ c. search needs) (λ c. search needs) returns-2)
+owner-in-range-spec = tie.close (tie.spec (search needs) (search needs) (search needs) (λ c. search needs) (λ c. rw (c .before .before .o .given .1)))

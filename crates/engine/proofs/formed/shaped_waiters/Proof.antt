@@ -1,21 +1,10 @@
-use Rattle.engine.proofs.Base.{_≡_, refl, _-_, length, queueCapacity, needs, isBlankWaiter, shaped, Joins, joins-next, joins-all}
+use Rattle.engine.proofs.Base.{refl, _-_, needs, Joins, joins-next, joins-whole, queueCapacity, isBlankWaiter, shaped}
 use Rattle.engine.proofs.formed.shaped_waiters.Statement.{statement}
 use Rattle.engine.proofs.formed.shaped_waiters.Tie as tie
 
-abbrev Inv-loop : tie.InvT-loop
-Inv-loop n a ok₀ j₀ ok j = Joins isBlankWaiter a ok₀ j₀ ok j
-
-abbrev μ-loop : tie.MeasureT-loop
-μ-loop n a ok₀ j₀ ok j = queueCapacity - j
-
-loop-again : tie.Need-loop-again Inv-loop μ-loop
-loop-again c = rw (c .is-blank-waiter .ensures) (joins-next (c .before .before .before .loop .inv) _ (search needs))
-
-returns : tie.Need-returns Inv-loop μ-loop
-unfolding shaped
-returns c =
-    let n : length (c .before .before .args .t1) ≡ queueCapacity = search needs in
-    rw n (joins-all (c .before .loop .inv) (search needs))
-
 pub shaped-waiters-spec : {M : Type 1} → statement M
-shaped-waiters-spec = tie.close (tie.spec Inv-loop μ-loop (λ c. record { same = refl }) (λ c. search needs) (λ c. search needs) (λ c κs. search needs) (λ c. search needs) (λ c. search needs) loop-again returns)
+unfolding shaped
+shaped-waiters-spec = tie.close (tie.spec (λ _. Joins isBlankWaiter) (λ _ _ _ _ _ j. queueCapacity - j) (λ c. record { same = refl }) (search needs)
+    (search needs) (search needs) (search needs) (search needs)
+    (λ c. rw (c .is-blank-waiter .ensures) (joins-next (c .before .before .before .loop .inv) _ (search needs)))
+    (λ c. joins-whole (c .before .loop .inv) (search needs) (search needs)))

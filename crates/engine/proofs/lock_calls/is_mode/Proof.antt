@@ -1,12 +1,6 @@
-use Rattle.engine.proofs.Calls.{eq-eqb, ne-eqb}
+use Rattle.engine.proofs.Base.{eq-eqb, ne-eqb}
 use Rattle.engine.proofs.lock_calls.is_mode.Statement.{statement}
 use Rattle.engine.proofs.lock_calls.is_mode.Tie as tie
 
-returns : tie.Need-returns
-returns c = rw (eq-eqb (c .before .args .m) 2 (c .if1 .taken))
-
-returns-2 : tie.Need-returns-2
-returns-2 c = rw (ne-eqb (c .before .args .m) 2 (c .if1 .left))
-
 pub is-mode-spec : {M : Type 1} → statement M
-is-mode-spec = tie.close (tie.spec returns returns-2)
+is-mode-spec = tie.close (tie.spec (λ c. rw (eq-eqb _ 2 (c .if1 .taken))) (λ c. rw (ne-eqb _ 2 (c .if1 .left))))

@@ -3,11 +3,6 @@ use borrow.Author.Needs.{needs}
 use Rattle.replay.proofs.text.text.Statement.{statement}
 use Rattle.replay.proofs.text.text.Tie as tie
 
-abbrev Inv-loop : tie.InvT-loop
-Inv-loop out₀ at s k₀ i₀ i-end out k i = Unit
-
-abbrev μ-loop : tie.MeasureT-loop
-μ-loop out₀ at s k₀ i₀ i-end out k i = i-end - i
-
 pub text-spec : {M : Type 1} → statement M
-text-spec = tie.close (tie.spec Inv-loop μ-loop (λ c. search needs) (λ c. search needs) (λ c κs. search needs) (λ c. search needs) (λ c. search needs) (λ c. search needs) (λ c. search needs))
+text-spec = tie.close (tie.spec (λ _ _ _ _ _ _ _ _ _. Unit) (λ _ _ _ _ _ i-end _ _ i. i-end - i) (search needs) (search needs) (search needs) (search needs)
+    (search needs) (search needs) (search needs))

@@ -4,8 +4,5 @@ use borrow.Author.Needs.{needs}
 use Rattle.replay.proofs.text.write_part.Statement.{statement}
 use Rattle.replay.proofs.text.write_part.Tie as tie
 
-slice-aggregate-write-all : tie.Need-slice-aggregate-write-all
-slice-aggregate-write-all c = sym (length-take-le _ _ (c .before .if1 .taken))
-
 pub write-part-spec : {M : Type 1} → statement M
-write-part-spec = tie.close (tie.spec slice-aggregate-write-all (λ c κs. search needs) (λ c. search needs) (λ c. search needs))
+write-part-spec = tie.close (tie.spec (λ c. sym (length-take-le _ _ (c .before .if1 .taken))) (search needs) (search needs) (search needs))
