@@ -255,6 +255,24 @@ module _ {e d r : Draining} (g : Along e d) (n : Progress d r) where
   pub along-next : r .ended ≡ false → Along e r
   along-next z = (still-open n z, along-more)
 
+-- r goes on from d by a step, or has ended
+abbrev pub Stepping : Draining → Draining → Type 0
+Stepping d r = (Progress d r) × (r .ended ≡ false → r .left < d .left)
+
+-- along a phase: what holds at its start is lost by a step alone
+abbrev pub Since : (Draining → Type 0) → Draining → Draining → Type 0
+Since P e d = (Along e d) × (d .left ≡ e .left → P d)
+
+module _ (P : Draining → Type 0) {e d : Draining} (i : Since P e d) where
+  pub since-more : {r : Draining} → Stepping d r → Stepping e r
+  since-more n = (along-more (i .0) (n .0), λ z. omega (arith, n .1 z, i .0 .1 .fewer))
+
+  pub since-next : {r : Draining} → Stepping d r → r .ended ≡ false → Since P e r
+  since-next n z = (along-next (i .0) (n .0) z, λ q. absurd (omega (arith, q, n .1 z, i .0 .1 .fewer)))
+
+  pub since-end : (P d → ⊥) → Stepping e d
+  since-end h = let less : d .left ≡ e .left → ⊥ = λ q. h (i .1 q) in (i .0 .1, λ z. omega (arith, less, i .0 .1 .fewer))
+
 -- p plans the drain's next step on t, after which the state is well formed
 pub record Planned (t : LockState) (p : Plan) : Type 0 where
   pub call : LockId → Call
@@ -295,10 +313,6 @@ module _ (t : LockState) (f : lockFormed t ≡ true) where
 
     pub none-holds : clients ≤ d → (l : LockId) → nextCall l t ≡ none
     none-holds h l = next-none l t (wire-length ∙ e) (omega (arith, parts t f .all-clients))
-
--- r goes on from d by a step, or has ended
-abbrev pub Stepping : Draining → Draining → Type 0
-Stepping d r = (Progress d r) × (r .ended ≡ false → r .left < d .left)
 
 module _ {d : Draining} (o : Open d) where
   progress-ends : (a : Answer) → ((l : LockId) → endedWith a d ≡ drainOn l d) → Stepping d (endedWith a d)

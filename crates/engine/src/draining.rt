@@ -24,7 +24,7 @@ ghost use Rattle.model.specs.States.{locks};
 ghost use Rattle.model.specs.WellFormed.{wellFormed};
 ghost use Rattle.model.specs.Drain.{drainRefused, drain};
 ghost use Rattle.engine.specs.Names.{LockId};
-ghost use Rattle.engine.specs.DrainState.{Open, Planned, Progress, endedWith, drainOn, holderFrom};
+ghost use Rattle.engine.specs.DrainState.{Open, Planned, Stepping, endedWith, drainOn, holderFrom};
 
 // How far the drain of one lock's state came: the steps that are left and, where it has ended, its answer.
 pub(crate) struct Draining {
@@ -65,7 +65,7 @@ fn end_with(d: Draining, a: Answer) -> Draining
 // The drain's next step, planned as p, is made; with no step left, or where the plan refuses, the drain ends.
 fn make_step(mut d: Draining, p: Plan) -> Draining
     requires { ⌜ (Open d) × (Planned (d .state) p) ⌝ }
-    ensures { λ r. ⌜ (Progress d r) × (r .ended ≡ false → r .left < d .left) ⌝ }
+    ensures { λ r. ⌜ Stepping d r ⌝ }
 {
     if d.left == 0 {
         return end_with(d, Answer::Refused(Refusal::NotQuiescent));
@@ -83,8 +83,8 @@ fn make_step(mut d: Draining, p: Plan) -> Draining
 
 // Delivers index 0 until the wire is empty.
 fn deliver_all(start: Draining) -> Draining
-    requires { ⌜ Open start ⌝ }
-    ensures { λ r. ⌜ (Progress start r) × (r .ended ≡ false → r .state .wire .len ≡ 0) ⌝ }
+    requires { ⌜ (Open start) × (0 < start .state .wire .len) ⌝ }
+    ensures { λ r. ⌜ (Stepping start r) × (r .ended ≡ false → r .state .wire .len ≡ 0) ⌝ }
 {
     let mut d = start;
     while 0 < d.state.wire.len {
@@ -100,7 +100,7 @@ fn deliver_all(start: Draining) -> Draining
 // Releases the holding client of lowest number until a packet is sent or nobody holds.
 fn release_all(start: Draining) -> Draining
     requires { ⌜ (Open start) × (start .state .wire .len ≡ 0) ⌝ }
-    ensures { λ r. ⌜ (Progress start r) × (r .ended ≡ false → r .left < start .left) ⌝ }
+    ensures { λ r. ⌜ (Stepping start r) × (r .ended ≡ false → 0 < r .state .wire .len) ⌝ }
 {
     let mut d = start;
     while d.state.wire.len == 0 {
@@ -118,22 +118,34 @@ fn release_all(start: Draining) -> Draining
     d
 }
 
-// With an empty wire it is the other phase's turn.
+// With an empty wire it is the other phase's turn. Each has made a step by then, so that fewer are left at each call.
 fn deliver_phase(start: Draining) -> Draining
-    requires { ⌜ Open start ⌝ }
+    requires { ⌜ (Open start) × (0 < start .state .wire .len) ⌝ }
     ensures { λ r. ⌜ ((l : LockId) → r ≡ drainOn l start) ⌝ }
 {
     let d = deliver_all(start);
     if d.ended { d } else { release_phase(d) }
 }
 
-// With a packet on the wire again it is this one's, and fewer steps are left.
+// With a packet on the wire again it is this one's.
 fn release_phase(start: Draining) -> Draining
     requires { ⌜ (Open start) × (start .state .wire .len ≡ 0) ⌝ }
     ensures { λ r. ⌜ ((l : LockId) → r ≡ drainOn l start) ⌝ }
 {
     let d = release_all(start);
     if d.ended { d } else { deliver_phase(d) }
+}
+
+// The drain of a lock's state begins with the phase that has something to do.
+fn drain_state(start: Draining) -> Draining
+    requires { ⌜ Open start ⌝ }
+    ensures { λ r. ⌜ ((l : LockId) → r ≡ drainOn l start) ⌝ }
+{
+    if 0 < start.state.wire.len {
+        deliver_phase(start)
+    } else {
+        release_phase(start)
+    }
 }
 
 fn drain_refused(r: Refusal, x: Cluster) -> Drained
@@ -153,7 +165,7 @@ fn drain_lock(x: Cluster, l: LockId) -> Drained
 {
     let i = l.0 as usize;
     let s = x.locks[i];
-    let d = deliver_phase(Draining {
+    let d = drain_state(Draining {
         ended: false,
         answer: Answer::Accepted,
         left: ALLOWANCE,
