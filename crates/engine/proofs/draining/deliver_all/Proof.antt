@@ -1,4 +1,5 @@
-use Rattle.engine.proofs.Base.{sym, _∙_, false≢true, _<_, arith, ready, Draining, Since, along-start, since-more, since-next, since-end, delivery-planned}
+use Rattle.engine.proofs.Base.{sym, _∙_, false≢true, _<_, arith, ready, Draining, Since, along-start, since-more, since-next, since-end}
+use Rattle.engine.proofs.Base.{delivery-planned}
 use Rattle.engine.proofs.draining.deliver_all.Statement.{statement}
 use Rattle.engine.proofs.draining.deliver_all.Tie as tie
 
