@@ -1,23 +1,23 @@
 -- The calls on one lock of a cluster that is known to be well formed, when the lock's number is in range: what is left of each call
 -- is a step on that lock's state.
 use mathlib.Core.Path.{_≡_, refl, ap}
-use mathlib.Core.Bool.{Bool, true, false, _||_, not}
-use mathlib.Core.List.{List, [], _∷_}
+use mathlib.Core.Bool.{Bool, true, false}
+use mathlib.Core.List.{List, _∷_}
 use Prim.Native.Nat.{ℕ, _<_, _≤_}
-use lib.ListN.{length, getD, set}
+use lib.ListN.{getD, set}
 use lib.Seq.{set-getD}
-use lib.Dec.{eqb, leb}
+use lib.Dec.{leb}
 use borrow.Author.Tests.{le-leb, lt-leb, leb-false}
 use native.Mathlib.Omega.{arith}
-use Rattle.engine.specs.Names.{LockId, MachineId, TaskId, ClientId, Refusal, Malformed, LockRange, MachineRange, TaskRange, ModeRange, NotIdle}
-use Rattle.engine.specs.Names.{StillNamed, NotHolding, IndexRange, Answer, Accepted, Refused, LockState, Cluster, Call, AcquireCall, ReleaseCall}
+use Rattle.engine.specs.Names.{LockId, MachineId, TaskId, Refusal, Malformed, LockRange, MachineRange, TaskRange}
+use Rattle.engine.specs.Names.{Answer, Accepted, Refused, LockState, Cluster, Call, AcquireCall, ReleaseCall}
 use Rattle.engine.specs.Names.{DeliverCall, Stepped, Outcome}
-use Rattle.model.specs.Lists.{any}
-use Rattle.model.specs.States.{locks, machines, tasks, clientOf, modeOf, statusOf, packets, freshLock, lockIn}
+use Rattle.model.specs.States.{locks, machines, tasks, clientOf, modeOf, freshLock, lockIn}
 use Rattle.model.specs.WellFormed.{lockFormed, wellFormed}
 use Rattle.model.specs.Changes.{refused}
 use Rattle.model.specs.Refusals.{Cause, _when_, first}
-use Rattle.model.specs.Calls.{isIdle, isHolding, names, acquireStep, releaseStep, deliverStep, refusing, settled, unless, acquire, release, deliver, perform}
+use Rattle.model.specs.Calls.{acquireStep, releaseStep, deliverStep, acquireTests, releaseTests, deliverTests, causes, refusing, settled, unless, acquire}
+use Rattle.model.specs.Calls.{release, deliver, perform}
 use Rattle.laws.specs.Lists.{getD-any}
 use Rattle.laws.specs.Formed.{all-locks, lock-formed}
 use Rattle.laws.specs.CallSteps.{lockOf, stepOf, step-refused}
@@ -25,26 +25,7 @@ use Rattle.laws.specs.Clusters.{perform-formed}
 use Rattle.rules.specs.declared.plan.Plan.{Plan}
 use Rattle.rules.specs.Plans.{carriedOut, Plans, plan-accepts, plan-refuses}
 
--- ---- the tests that are left, in document 01's order, and then the step
-abbrev pub idleTests : LockState → ClientId → List Cause
-idleTests s c = (NotIdle when not (isIdle (statusOf s c))) ∷ (StillNamed when any (names c) (packets (s .wire))) ∷ []
-
-abbrev pub acquireTests : LockState → MachineId → TaskId → ℕ → List Cause
-acquireTests s k t m =
-    (MachineRange when leb machines (k .0))
-    ∷ (TaskRange when leb tasks (t .0))
-    ∷ (ModeRange when not (eqb m 2 || eqb m 3))
-    ∷ idleTests s (clientOf k t)
-
-abbrev pub holdingTests : LockState → ClientId → List Cause
-holdingTests s c = (NotHolding when not (isHolding (statusOf s c))) ∷ []
-
-abbrev pub releaseTests : LockState → MachineId → TaskId → List Cause
-releaseTests s k t = (MachineRange when leb machines (k .0)) ∷ (TaskRange when leb tasks (t .0)) ∷ holdingTests s (clientOf k t)
-
-abbrev pub deliverTests : LockState → ℕ → List Cause
-deliverTests s i = (IndexRange when leb (length (packets (s .wire))) i) ∷ []
-
+-- ---- the tests that are left to a call on a lock's state, and then the step
 -- the step r where the tests' answer accepts, else a refusal that leaves s
 unfoldable pub stepUnless : Answer → LockState → Stepped → Stepped
 stepUnless Accepted s r = r
@@ -94,7 +75,7 @@ unfoldable pub callOn : Call → LockState → Stepped
 callOn c s = stepUnless (first (testsOf c s)) s (stepOf c s)
 
 abbrev causesOf : Call → Cluster → List Cause
-causesOf c x = (Malformed when not (wellFormed x)) ∷ (LockRange when leb locks (lockOf c .0)) ∷ testsOf c (lockIn x (lockOf c))
+causesOf c x = causes x (lockOf c) (testsOf c (lockIn x (lockOf c)))
 
 perform-by : (c : Call) (x : Cluster) → perform c x ≡ unless (first (causesOf c x)) x (lockOf c) (stepOf c (lockIn x (lockOf c)))
 unfolding perform acquire release deliver

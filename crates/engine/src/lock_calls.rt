@@ -27,11 +27,11 @@ ghost use lib.Dec.{eqb};
 ghost use Rattle.model.specs.States.{machines, tasks, clientOf, modeOf};
 ghost use Rattle.model.specs.WellFormed.{lockFormed};
 ghost use Rattle.model.specs.Refusals.{first};
-ghost use Rattle.model.specs.Calls.{isIdle, isHolding};
+ghost use Rattle.model.specs.Calls.{isIdle, isHolding, idleTests, acquireTests, holdingTests, releaseTests};
 ghost use Rattle.laws.specs.Shapes.{CanonicalWire};
 ghost use Rattle.laws.specs.CallSteps.{lockOf};
 ghost use Rattle.rules.specs.Plans.{Plans};
-ghost use Rattle.engine.specs.LockCalls.{idleTests, acquireTests, holdingTests, releaseTests, acquireOn, releaseOn, deliverOn, callOn};
+ghost use Rattle.engine.specs.LockCalls.{acquireOn, releaseOn, deliverOn, callOn};
 pub use rules::plan::Plan;
 pub use rules::plan::carry_out;
 

@@ -14,7 +14,7 @@ use Rattle.model.specs.States.{clientOf, modeOf, modeNumber, statusOf, packets,
 use Rattle.model.specs.WellFormed.{wellFormed}
 use Rattle.model.specs.Changes.{Verdict, cannot-place, does, finish}
 use Rattle.model.specs.Refusals.{refusalNumber, Cause, _when_, first}
-use Rattle.model.specs.Calls.{isIdle, isHolding, names, acquireStep, releaseStep, takes, deliverStep, acquireCauses, releaseCauses, deliverCauses, refusing}
+use Rattle.model.specs.Calls.{isIdle, isHolding, names, acquireStep, releaseStep, takes, deliverStep, refusing}
 use Rattle.model.specs.Calls.{settled, unless, acquire, release, deliver, perform}
 use Rattle.laws.specs.Tests.{and-left, and-right, pick-by}
 use Rattle.laws.specs.Formed.{all-locks}
@@ -121,9 +121,9 @@ unless-elsewhere (Refused r) x l s j n = refl
 
 pub perform-elsewhere : (c : Call) (x : Cluster) (j : LockId) → (j .0 ≡ lockOf c .0 → ⊥) → lockIn (perform c x .cluster) j ≡ lockIn x j
 unfolding perform acquire release deliver
-perform-elsewhere (AcquireCall l k t m) x j n = unless-elsewhere (first (acquireCauses x l k t m)) x l _ j n
-perform-elsewhere (ReleaseCall l k t) x j n = unless-elsewhere (first (releaseCauses x l k t)) x l _ j n
-perform-elsewhere (DeliverCall l i) x j n = unless-elsewhere (first (deliverCauses x l i)) x l _ j n
+perform-elsewhere (AcquireCall l k t m) x j n = unless-elsewhere _ x l _ j n
+perform-elsewhere (ReleaseCall l k t) x j n = unless-elsewhere _ x l _ j n
+perform-elsewhere (DeliverCall l i) x j n = unless-elsewhere _ x l _ j n
 
 -- a refused step leaves the state as it was
 finish-refused : (k : MachineId) (c : ClientId) (w : Verdict) (rest : List Packet) (s : LockState) (r : Refusal) → finish k c w rest s .answer ≡ Refused r

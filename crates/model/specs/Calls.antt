@@ -74,33 +74,28 @@ takes s p rest =
 unfoldable pub deliverStep : LockState → ℕ → Stepped
 deliverStep s i = takes s (packetAt s i) (removed (packets (s .wire)) i)
 
--- The causes of each call, in the order of their tests; 9 and 10 come last, with the step.
-abbrev pub acquireCauses : Cluster → LockId → MachineId → TaskId → ℕ → List Cause
-acquireCauses x l k t m =
-    (Malformed when not (wellFormed x))
-    ∷ (LockRange when leb locks (l .0))
-    ∷ (MachineRange when leb machines (k .0))
+-- The causes of each call, in the order of their tests: of the cluster, of the call's numbers, of the lock's state. 9 and 10 come last, with the step.
+abbrev pub idleTests : LockState → ClientId → List Cause
+idleTests s c = (NotIdle when not (isIdle (statusOf s c))) ∷ (StillNamed when any (names c) (packets (s .wire))) ∷ []
+
+abbrev pub acquireTests : LockState → MachineId → TaskId → ℕ → List Cause
+acquireTests s k t m =
+    (MachineRange when leb machines (k .0))
     ∷ (TaskRange when leb tasks (t .0))
     ∷ (ModeRange when not (eqb m 2 || eqb m 3))
-    ∷ (NotIdle when not (isIdle (statusOf (lockIn x l) (clientOf k t))))
-    ∷ (StillNamed when any (names (clientOf k t)) (packets (lockIn x l .wire)))
-    ∷ []
+    ∷ idleTests s (clientOf k t)
 
-abbrev pub releaseCauses : Cluster → LockId → MachineId → TaskId → List Cause
-releaseCauses x l k t =
-    (Malformed when not (wellFormed x))
-    ∷ (LockRange when leb locks (l .0))
-    ∷ (MachineRange when leb machines (k .0))
-    ∷ (TaskRange when leb tasks (t .0))
-    ∷ (NotHolding when not (isHolding (statusOf (lockIn x l) (clientOf k t))))
-    ∷ []
+abbrev pub holdingTests : LockState → ClientId → List Cause
+holdingTests s c = (NotHolding when not (isHolding (statusOf s c))) ∷ []
 
-abbrev pub deliverCauses : Cluster → LockId → ℕ → List Cause
-deliverCauses x l i =
-    (Malformed when not (wellFormed x))
-    ∷ (LockRange when leb locks (l .0))
-    ∷ (IndexRange when leb (length (packets (lockIn x l .wire))) i)
-    ∷ []
+abbrev pub releaseTests : LockState → MachineId → TaskId → List Cause
+releaseTests s k t = (MachineRange when leb machines (k .0)) ∷ (TaskRange when leb tasks (t .0)) ∷ holdingTests s (clientOf k t)
+
+abbrev pub deliverTests : LockState → ℕ → List Cause
+deliverTests s i = (IndexRange when leb (length (packets (s .wire))) i) ∷ []
+
+abbrev pub causes : Cluster → LockId → List Cause → List Cause
+causes x l tests = (Malformed when not (wellFormed x)) ∷ (LockRange when leb locks (l .0)) ∷ tests
 
 -- A refused call leaves the cluster as it was.
 abbrev pub refusing : Refusal → Cluster → Outcome
@@ -116,13 +111,13 @@ unless Accepted x l s = settled (s .answer) x l (s .state)
 unless (Refused r) x l s = refusing r x
 
 unfoldable pub acquire : Cluster → LockId → MachineId → TaskId → ℕ → Outcome
-acquire x l k t m = unless (first (acquireCauses x l k t m)) x l (acquireStep (lockIn x l) (clientOf k t) (modeOf m))
+acquire x l k t m = unless (first (causes x l (acquireTests (lockIn x l) k t m))) x l (acquireStep (lockIn x l) (clientOf k t) (modeOf m))
 
 unfoldable pub release : Cluster → LockId → MachineId → TaskId → Outcome
-release x l k t = unless (first (releaseCauses x l k t)) x l (releaseStep (lockIn x l) (clientOf k t))
+release x l k t = unless (first (causes x l (releaseTests (lockIn x l) k t))) x l (releaseStep (lockIn x l) (clientOf k t))
 
 unfoldable pub deliver : Cluster → LockId → ℕ → Outcome
-deliver x l i = unless (first (deliverCauses x l i)) x l (deliverStep (lockIn x l) i)
+deliver x l i = unless (first (causes x l (deliverTests (lockIn x l) i))) x l (deliverStep (lockIn x l) i)
 
 -- A call as data.
 unfoldable pub perform : Call → Cluster → Outcome
