@@ -43,18 +43,27 @@ readRecord bytes i =
     (pick (eqb (short bytes (i + 2)) 2) (wholeRecord 7 bytes i (releaseAt bytes i))
     (pick (eqb (short bytes (i + 2)) 3) (wholeRecord 6 bytes i (deliverAt bytes i)) Bad))))
 
+-- What a reading gives the run. A record has no number of its own: its call is run, whatever that answers, and the run goes on at the position behind it.
+-- The other two end the run with an answer (a bad record's number is 12, the end's is 0) and add so many to the records counted.
+pub data Given : Type 0 where
+  goes-on : Call → ℕ → Given
+  ends : Answer → ℕ → Given
+
+abbrev pub given : Reading → Given
+given (Record c j) = goes-on c j
+given Bad = ends (Refused BadRecord) 1
+given End = ends Accepted 0
+
 abbrev pub replayed : Answer → ℕ → Cluster → Replayed
 replayed a n x = record { answer = a; records = n; cluster = x }
 
--- From position i on, with n records read. A bad record ends it and counts as read; a refused call does not end it. The first number bounds the
--- records that are left.
+-- From position i on, with n records read. The first number bounds the records that are left.
 unfoldable pub replayFrom : ℕ → List ℕ → ℕ → ℕ → Cluster → Replayed
 replayFrom zero bytes i n x = replayed Accepted n x
 replayFrom (suc left) bytes i n x =
-    elim (readRecord bytes i) [
-      | Record c j ↦ replayFrom left bytes j (n + 1) (perform c x .cluster)
-      | Bad ↦ replayed (Refused BadRecord) (n + 1) x
-      | End ↦ replayed Accepted n x
+    elim (given (readRecord bytes i)) [
+      | goes-on c j ↦ replayFrom left bytes j (n + 1) (perform c x .cluster)
+      | ends a counted ↦ replayed a (n + counted) x
     ]
 
 unfoldable pub replayUnless : Answer → Cluster → List ℕ → Replayed

@@ -1,120 +1,229 @@
--- For each bound of document 01, two states that differ in it alone: one well formed, one not. (`fresh-formed` in laws: the fresh cluster is.)
+-- For each bound of document 01, pairs of clusters that differ in it alone: one is well formed, the other is not. The file stands on the model alone: a
+-- fault in WellFormed breaks proofs in laws as well, and model-edits tries such faults on these pairs.
 use mathlib.Core.Path.{_≡_, refl}
 use mathlib.Core.Bool.{Bool, true, false}
-use mathlib.Core.List.{List, [], _∷_}
-use Prim.Native.Nat.{ℕ}
+use mathlib.Core.List.{List, [], _∷_, _++_, map}
+use Prim.Native.Nat.{ℕ, zero, suc, _+_, _-_, _%_}
 use lib.ListN.{set, replicate}
+use Rattle.model.specs.declared.{MachineId.MachineId, ClientId.ClientId, Mode.the-variants.{Exclusive, Shared}, Owner.Owner}
+use Rattle.model.specs.declared.{Owner.the-variants.{Free as Unowned, Owned}, Waiter.Waiter, Agent.Agent, AgentSlot.AgentSlot, Address.Address}
+use Rattle.model.specs.declared.{Address.the-variants.{Decider as ToDecider, Machine as ToMachine}, Message.Message}
+use Rattle.model.specs.declared.{Message.the-variants.{Free, Acquire, Grant, Release}, Packet.Packet, Wire.Wire}
+use Rattle.model.specs.declared.{ClientState.ClientState, LockState.LockState, Cluster.Cluster}
 use Rattle.model.specs.Lists.{any, all, padded}
-use Rattle.theorems.specs.Names.{MachineId, ClientId, Exclusive, Shared, Unowned, Owned, Waiter, AgentSlot, Address, ToDecider, ToMachine, Message}
-use Rattle.theorems.specs.Names.{Free, Acquire, Grant, Release, Packet, Wire, LockState, machines, clients, plain, carrying, inParts, changed, Owner, _+_}
-use Rattle.theorems.specs.Names.{locks, tasks, queueCapacity, wireCapacity}
-use Rattle.model.specs.States.{queueOf, newAgent, someAgent, noAgent, idle, blankWaiter, blankPacket, wireOf, noHolders}
+use Rattle.model.specs.States.{locks, machines, tasks, clients, queueCapacity, wireCapacity, blankWaiter, queueOf, noHolders, newAgent, someAgent, noAgent}
+use Rattle.model.specs.States.{idle, plain, blankPacket, wireOf, freshLock}
 use Rattle.model.specs.Drain.{allowance}
-use Rattle.theorems.specs.Statements.{provedBound}
 use Rattle.model.specs.WellFormed.{shaped, isBlankWaiter, distinct, queueFormed, agentFormed, isBlankAgent, slotFormed, messageFormed, packetFormed}
-use Rattle.model.specs.WellFormed.{isBlankPacket, wireFormed, lockFormed}
+use Rattle.model.specs.WellFormed.{isBlankPacket, wireFormed, lockFormed, wellFormed}
 
--- Document 01's numbers, and the one that README gives. Everything else goes by their names.
-pub sizes-are : (locks ≡ 8) × (machines ≡ 4) × (tasks ≡ 4) × (clients ≡ 16) × (queueCapacity ≡ 16)
-    × (wireCapacity ≡ 33) × (allowance ≡ 16384) × (provedBound ≡ 11384)
-sizes-are = (refl, refl, refl, refl, refl, refl, refl, refl)
+-- Document 01's numbers. Everything else goes by their names.
+pub sizes-are : (locks ≡ 8) × (machines ≡ 4) × (tasks ≡ 4) × (clients ≡ 16) × (queueCapacity ≡ 16) × (wireCapacity ≡ 33) × (allowance ≡ 16384)
+sizes-are = (refl, refl, refl, refl, refl, refl, refl)
 
--- a well-formed state, and one that differs from it in one bound
+-- a well-formed cluster, and one that differs from it in one bound
 pub record Bound : Type 0 where
-  pub within : LockState
-  pub outside : LockState
+  pub within : Cluster
+  pub outside : Cluster
 
--- ---- states that show one thing
+-- a cluster with the one value in it, and with the other
+abbrev differ : {A : Type 0} → (A → Cluster) → A → A → Bound
+differ f a b = record { within = f a; outside = f b }
+
+-- an array of n, and those of one more and of one fewer; in code the array's type says n
+abbrev sized : {A : Type 0} → (List A → Cluster) → ℕ → A → List Bound
+sized f n z = differ f (replicate n z) (replicate (n + 1) z) ∷ differ f (replicate n z) (replicate (n - 1) z) ∷ []
+
+-- the numbers below n
+abbrev below : ℕ → List ℕ
+below zero = []
+below (suc n) = below n ++ (n ∷ [])
+
+abbrev each : List ℕ → (ℕ → List Bound) → List Bound
+each [] f = []
+each (i ∷ is) f = f i ++ each is f
+
+-- ---- words for states
 abbrev machine : ℕ → MachineId
 machine k = record { 0 = k }
 
 abbrev client : ℕ → ClientId
 client c = record { 0 = c }
 
-abbrev state : Owner → List AgentSlot → Wire → LockState
-state o xs w = record { decider = record { owner = o; incarnation = 0 }; agents = xs; clients = replicate clients idle; wire = w }
+abbrev state : Owner → List AgentSlot → List ClientState → Wire → LockState
+state o xs cs w = record { decider = record { owner = o; incarnation = 0 }; agents = xs; clients = cs; wire = w }
+
+-- the lock l is in this state, the others are fresh
+abbrev lock : ℕ → LockState → Cluster
+lock l s = record { locks = set (replicate 8 freshLock) l s }
 
 abbrev nowhere : List AgentSlot
-nowhere = replicate machines noAgent
+nowhere = replicate 4 noAgent
+
+abbrev allIdle : List ClientState
+allIdle = replicate 16 idle
 
 abbrev ownedBy : ℕ → LockState
-ownedBy k = state (Owned Shared (machine k)) nowhere (wireOf [])
+ownedBy k = state (Owned Shared (machine k)) nowhere allIdle (wireOf [])
 
--- machine 0 has this slot
-abbrev slot0 : AgentSlot → LockState
-slot0 x = state (Owned Shared (machine 0)) (set nowhere 0 x) (wireOf [])
+-- lock 0, whose machine k has this slot
+abbrev slotOn : ℕ → AgentSlot → Cluster
+slotOn k x = lock 0 (state (Owned Shared (machine k)) (set nowhere k x) allIdle (wireOf []))
 
--- an agent there, whose queue has these in front and this length
-abbrev queued : List Waiter → ℕ → LockState
-queued ws n = slot0 (someAgent (changed (newAgent Exclusive) noHolders (record { slots = padded queueCapacity blankWaiter ws; len = n }) 0))
-
-abbrev waits : ℕ → Waiter
-waits c = record { client = client c; mode = Shared }
-
--- a wire, likewise
-abbrev onWire : List Packet → ℕ → LockState
-onWire ps n = state Unowned nowhere (record { slots = padded wireCapacity blankPacket ps; len = n })
-
-abbrev sent : Packet → LockState
-sent p = onWire (p ∷ []) 1
-
-abbrev carried : AgentSlot
-carried = someAgent (newAgent Shared)
+-- lock 0 with this wire: its slots and its length
+abbrev onWire : List Packet → ℕ → Cluster
+onWire ps n = lock 0 (state Unowned nowhere allIdle (record { slots = ps; len = n }))
 
 -- a packet: message, address, rejected, what it carries
-abbrev framed : Message → Address → Bool → AgentSlot → LockState
-framed m t b x = sent (inParts m t b (x .present) (carrying m t (x .agent)))
+abbrev packet : Message → Address → Bool → AgentSlot → Packet
+packet m t b x = record { message = m; to = t; rejected = b; carried = x }
+
+abbrev blankWire : List Packet
+blankWire = replicate 33 blankPacket
+
+-- such a packet alone on the wire
+abbrev sent : Message → Address → Bool → AgentSlot → Cluster
+sent m t b x = onWire (set blankWire 0 (packet m t b x)) 1
 
 abbrev acquire : ℕ → Message
-acquire c = Acquire (client c) Shared false
+acquire c = Acquire (client c) Shared true
 
 abbrev grant : ℕ → Message
-grant c = Grant (client c) Shared
+grant c = Grant (client c) Exclusive
+
+abbrev release : ℕ → Message
+release c = Release (client c)
 
 abbrev away : Address
 away = ToMachine (machine 1)
 
-abbrev dirty : AgentSlot
-dirty = record { present = false; agent = newAgent Shared }
+abbrev waits : ℕ → Waiter
+waits c = record { client = client c; mode = Shared }
 
-abbrev bound : LockState → LockState → Bound
-bound a b = record { within = a; outside = b }
+abbrev everyone : List Waiter
+everyone = map waits (below 16)
 
-unfoldable pub bounds : List Bound
-bounds =
-    -- machines 0 to 3
-    bound (ownedBy 3) (ownedBy 4)
-    ∷ bound (framed (acquire 0) (ToMachine (machine 3)) false noAgent) (framed (acquire 0) (ToMachine (machine 4)) false noAgent)
-    -- clients 0 to 15
-    ∷ bound (framed (acquire 15) ToDecider false noAgent) (framed (acquire 16) ToDecider false noAgent)
-    ∷ bound (framed (grant 15) ToDecider false noAgent) (framed (grant 16) ToDecider false noAgent)
-    ∷ bound (framed (Release (client 15)) ToDecider false noAgent) (framed (Release (client 16)) ToDecider false noAgent)
-    ∷ bound (queued (waits 15 ∷ []) 1) (queued (waits 16 ∷ []) 1)
-    -- the length of a queue, and its clients
-    ∷ bound (queued [] 0) (queued [] (queueCapacity + 1))
-    ∷ bound (queued (waits 1 ∷ waits 2 ∷ []) 2) (queued (waits 1 ∷ waits 1 ∷ []) 2)
-    -- the length of the wire
-    ∷ bound (onWire [] 0) (onWire [] (wireCapacity + 1))
-    -- which messages carry an agent
-    ∷ bound (framed Free ToDecider false carried) (framed Free ToDecider false noAgent)
-    ∷ bound (framed (acquire 0) ToDecider false noAgent) (framed (acquire 0) ToDecider false carried)
-    ∷ bound (framed (Release (client 0)) ToDecider false noAgent) (framed (Release (client 0)) ToDecider false carried)
+abbrev blankQueue : List Waiter
+blankQueue = replicate 16 blankWaiter
+
+-- an exclusive agent: holders, its queue's slots and length, incarnation
+abbrev agent : List Bool → List Waiter → ℕ → ℕ → Agent
+agent hs ws n i = record { mode = Exclusive; holders = hs; queue = record { slots = ws; len = n }; incarnation = i }
+
+abbrev carried : AgentSlot
+carried = someAgent (newAgent Exclusive)
+
+-- ---- the bounds of an agent, wherever its slot is; those of a single place are shown at the places given
+abbrev ofAgent : List ℕ → (AgentSlot → Cluster) → List Bound
+ofAgent places f =
+    sized (λ hs. f (someAgent (agent hs blankQueue 0 7))) 16 true
+    ++ sized (λ ws. queued ws 0) 16 blankWaiter
+    -- the queue's length: here all clients wait
+    ++ (differ (queued everyone) 16 17 ∷ [])
+    -- each client of it is in range and stands there once, and each slot past its end is blank
+    ++ each places
+    (λ i.
+    differ (standing i) i 16
+    ∷ differ (standing i) i ((i + 1) % 16)
+    ∷ differ (past i) blankWaiter (waits 0)
+    ∷ differ (past i) blankWaiter (record { client = client 1; mode = Exclusive })
+    ∷ [])
+  where
+    queued : List Waiter → ℕ → Cluster
+    queued ws n = f (someAgent (agent noHolders ws n 0))
+
+    -- client c stands at i, where client i would
+    standing : ℕ → ℕ → Cluster
+    standing i c = queued (set everyone i (waits c)) 16
+
+    past : ℕ → Waiter → Cluster
+    past i w = queued (set blankQueue i w) 0
+
+-- ---- and of a slot without agent, which is blank in everything
+abbrev ofNone : List ℕ → (AgentSlot → Cluster) → List Bound
+ofNone places f =
+    map (differ none (newAgent Exclusive))
+    (newAgent Shared
+    ∷ agent noHolders blankQueue 1 0
+    ∷ agent noHolders blankQueue 0 1
+    ∷ map (λ i. agent (set noHolders i true) blankQueue 0 0) places
+    ++ map (λ i. agent noHolders (set blankQueue i (waits 0)) 0 0) places)
+    ++ sized (λ hs. none (agent hs blankQueue 0 0)) 16 false
+    ++ sized (λ ws. none (agent noHolders ws 0 0)) 16 blankWaiter
+  where
+    none : Agent → Cluster
+    none a = f (record { present = false; agent = a })
+
+-- ---- the bounds
+-- every lock, its owner, and how many there are of each thing
+abbrev ofLocks : List Bound
+ofLocks =
+    map (λ l. differ (λ k. lock l (ownedBy k)) 3 4) (below 8)
+    ++ sized (λ ls. record { locks = ls }) 8 freshLock
+    ++ sized (λ xs. lock 0 (state Unowned xs allIdle (wireOf []))) 4 noAgent
+    ++ sized (λ cs. lock 0 (state Unowned nowhere cs (wireOf []))) 16 idle
+
+abbrev last : List ℕ
+last = 15 ∷ []
+
+-- every machine's slot, and every place of one
+abbrev ofSlots : List Bound
+ofSlots = each (below 4) (λ k. ofAgent last (slotOn k) ++ ofNone last (slotOn k)) ++ ofAgent (below 16) (slotOn 0) ++ ofNone (below 16) (slotOn 0)
+
+-- what packets carry
+abbrev ofCarried : List Bound
+ofCarried =
+    ofAgent last (sent Free ToDecider false)
+    ++ ofAgent last (sent (grant 0) ToDecider false)
+    ++ ofAgent last (sent (grant 0) away true)
+    ++ ofNone last (sent (acquire 0) away false)
+    ++ ofNone last (sent (grant 0) away false)
+    ++ ofNone last (sent (release 0) away false)
+
+abbrev ofMessages : List Bound
+ofMessages =
+    -- machines 0 to 3, clients 0 to 15
+    differ (λ k. sent (acquire 0) (ToMachine (machine k)) false noAgent) 3 4
+    ∷ differ (λ c. sent (acquire c) ToDecider false noAgent) 15 16
+    ∷ differ (λ c. sent (grant c) ToDecider false noAgent) 15 16
+    ∷ differ (λ c. sent (release c) ToDecider false noAgent) 15 16
+    -- which of them carry an agent
+    ∷ differ (sent Free ToDecider false) carried noAgent
+    ∷ differ (sent (acquire 0) ToDecider false) noAgent carried
+    ∷ differ (sent (release 0) ToDecider false) noAgent carried
     -- what can be rejected, and where it goes
-    ∷ bound (framed Free away true carried) (framed Free ToDecider true carried)
-    ∷ bound (framed (grant 0) away true carried) (framed (grant 0) ToDecider true carried)
-    ∷ bound (framed (grant 0) away true carried) (framed (grant 0) away true noAgent)
-    ∷ bound (framed (acquire 0) away false noAgent) (framed (acquire 0) away true noAgent)
-    ∷ bound (framed (Release (client 0)) away false noAgent) (framed (Release (client 0)) away true noAgent)
+    ∷ differ (λ t. sent Free t true carried) away ToDecider
+    ∷ differ (λ t. sent (grant 0) t true carried) away ToDecider
+    ∷ differ (sent Free away true) carried noAgent
+    ∷ differ (sent (grant 0) away true) carried noAgent
+    ∷ differ (λ b. sent (acquire 0) away b noAgent) false true
+    ∷ differ (λ b. sent (release 0) away b noAgent) false true
     -- where any other FREE goes
-    ∷ bound (framed Free ToDecider false carried) (framed Free away false carried)
-    -- blanks: past a queue's end, past the wire's, in a slot that has no agent and in a packet that carries none
-    ∷ bound (queued [] 0) (queued (waits 0 ∷ []) 0)
-    ∷ bound (onWire [] 0) (onWire (plain (acquire 0) ToDecider ∷ []) 0)
-    ∷ bound (slot0 noAgent) (slot0 dirty)
-    ∷ bound (framed (acquire 0) ToDecider false noAgent) (framed (acquire 0) ToDecider false dirty)
+    ∷ differ (λ t. sent Free t false carried) ToDecider away
     ∷ []
 
-pub bounds-tested : (all (λ (b : Bound). lockFormed (b .within)) bounds ≡ true) × (any (λ (b : Bound). lockFormed (b .outside)) bounds ≡ false)
-unfolding bounds lockFormed wireFormed packetFormed messageFormed slotFormed agentFormed isBlankAgent isBlankPacket isBlankWaiter
-    queueFormed distinct shaped padded queueOf noAgent blankPacket wireOf
-bounds-tested = (refl, refl)
+-- the wire's length, each packet on it, and the blanks past its end
+abbrev ofWires : List Bound
+ofWires =
+    sized (λ ps. onWire ps 0) 33 blankPacket
+    ++ (differ (onWire (replicate 33 (plain (Acquire (client 0) Exclusive false) ToDecider))) 33 34 ∷ [])
+    ++ each (below 33)
+    (λ i.
+    differ (λ c. onWire (set (replicate 33 (plain (release 0) ToDecider)) i (packet (grant c) away false carried)) 33) 15 16
+    ∷ differ (past i) blankPacket (packet (acquire 0) ToDecider false noAgent)
+    ∷ differ (past i) blankPacket (packet Free away false noAgent)
+    ∷ differ (past i) blankPacket (packet Free ToDecider true noAgent)
+    ∷ differ (past i) blankPacket (packet Free ToDecider false carried)
+    ∷ [])
+    ++ ofNone last (λ x. past 32 (packet Free ToDecider false x))
+  where
+    past : ℕ → Packet → Cluster
+    past i p = onWire (set blankWire i p) 0
+
+abbrev Tested : List Bound → Type 0
+Tested bs = (all (λ (b : Bound). wellFormed (b .within)) bs ≡ true) × (any (λ (b : Bound). wellFormed (b .outside)) bs ≡ false)
+
+pub bounds-tested : Tested ofLocks × Tested ofSlots × Tested ofCarried × Tested ofMessages × Tested ofWires
+unfolding wellFormed lockFormed wireFormed packetFormed messageFormed slotFormed agentFormed isBlankAgent isBlankPacket isBlankWaiter queueFormed distinct
+    shaped padded queueOf noAgent blankPacket wireOf freshLock
+bounds-tested = ((refl, refl), (refl, refl), (refl, refl), (refl, refl), (refl, refl))

@@ -7,24 +7,23 @@ pub use Rattle.model.specs.declared.{Address.Address, Address.the-variants.{Dec
 pub use Rattle.model.specs.declared.{Message.the-variants.{Free, Acquire, Grant, Release}, Packet.Packet, Wire.Wire}
 pub use Rattle.model.specs.declared.{Status.Status, Status.the-variants.{Idle, Waiting, Holding}, ClientState.ClientState, Site.Site, LockState.LockState}
 pub use Rattle.model.specs.declared.{Cluster.Cluster}
-pub use Rattle.model.specs.declared.{Call.Call, Call.the-variants.{Acquire as AcquireCall, Release as ReleaseCall, Deliver as DeliverCall}, Reading.Reading}
-pub use Rattle.model.specs.declared.{Reading.the-variants.{Record, Bad, End}}
+pub use Rattle.model.specs.declared.{Call.Call, Call.the-variants.{Acquire as AcquireCall, Release as ReleaseCall, Deliver as DeliverCall}}
 pub use Rattle.model.specs.declared.{Refusal.Refusal}
 pub use Rattle.model.specs.declared.{Refusal.the-variants.{Malformed, LockRange, MachineRange, TaskRange, ModeRange, NotIdle, StillNamed, NotHolding}}
 pub use Rattle.model.specs.declared.{Refusal.the-variants.{IndexRange, CannotPlace, WireFull, BadRecord, TranscriptLength, NotQuiescent}, Answer.Answer}
 pub use Rattle.model.specs.declared.{Answer.the-variants.{Accepted, Refused}}
-pub use Rattle.model.specs.declared.{Stepped.Stepped, Outcome.Outcome, Drained.Drained, Replayed.Replayed}
+pub use Rattle.model.specs.declared.{Stepped.Stepped, Outcome.Outcome, Drained.Drained}
 -- ---- the library
 pub use mathlib.Core.Path.{_≡_, refl, sym, ap, _∙_}
 pub use mathlib.Core.Bool.{Bool, true, false, _&&_, _||_, not, and-true, and-false, true≢false, false≢true}
 pub use mathlib.Core.List.{List, [], _∷_, _++_, map}
-pub use Prim.Native.Nat.{ℕ, zero, suc, _+_, _-_, _*_, _≤_, _<_, _/_, _%_}
+pub use Prim.Native.Nat.{ℕ, zero, suc, _+_, _-_, _*_, _≤_, _<_, _%_}
 pub use native.Mathlib.Omega.{arith}
 pub use native.Mathlib.Decide.{ℕ-discrete}
-pub use lib.ListN.{length, getD, take, drop, set, replicate, length-set, length-append, List·getD-eq-default}
+pub use lib.ListN.{length, getD, set, replicate, length-set, length-append, List·getD-eq-default}
 pub use lib.Seq.{set-getD, getD-set-same, getD-set-other}
 pub use lib.Dec.{eqb, leb, ltb}
-pub use borrow.Author.Tests.{eqb-true, eqb-false, eq-eqb, ne-eqb, ltb-true, ltb-false, lt-ltb, leb-true, leb-false, le-leb, lt-leb, not-true, not-false}
+pub use borrow.Author.Tests.{eqb-true, eqb-false, eq-eqb, ne-eqb, ltb-true, ltb-false, lt-ltb, leb-true, leb-false, le-leb, lt-leb}
 -- ---- the model and its laws
 pub use Rattle.model.specs.Lists.{pick, any, all}
 unfoldable pub use Rattle.model.specs.Lists.{removed}
@@ -37,18 +36,18 @@ pub use Rattle.model.specs.Changes.{siteOf, withDecider, withSlot, withStatus, 
 unfoldable pub use Rattle.model.specs.Changes.{finish}
 pub use Rattle.model.specs.Asking.{changed, joining, queuing, noRoom, withRoom, anyHolder, without, departing, leaves, lists}
 unfoldable pub use Rattle.model.specs.Asking.{mayJoin, clientAsks, clientAcquires, handOver, staysIf, clientReleases}
-pub use Rattle.model.specs.AtDecider.{next, sentOn, ownedShared, grantsWith, grantsFirst, shares, current, rejectedTo, rejects, passesOn}
+pub use Rattle.model.specs.AtDecider.{next, ownedShared, grantsFirst, shares, current, rejects, passesOn}
 unfoldable pub use Rattle.model.specs.AtDecider.{mayShare, toOwner, decidesAcquire, decidesFree, decidesGrant, decides, atDecider}
-pub use Rattle.model.specs.AtMachine.{sentBack, sendsBack, grantOf, installed, requeued}
+pub use Rattle.model.specs.AtMachine.{sendsBack, grantOf, installed, requeued}
 unfoldable pub use Rattle.model.specs.AtMachine.{admitted, staying, joined, installs, grantArrives, rejectedGrantArrives, marked, unmarked, acquireArrives}
 unfoldable pub use Rattle.model.specs.AtMachine.{releaseArrives, freeArrives, arrives, atMachine}
-pub use Rattle.model.specs.Calls.{refusing, isIdle, isHolding, messageNames, names, machineAt, clientNamed, packetAt, answersOf, after}
+pub use Rattle.model.specs.Calls.{refusing, isHolding, messageNames, names, machineAt, clientNamed, packetAt, answersOf, after}
 unfoldable pub use Rattle.model.specs.Calls.{delivers, acquireStep, releaseStep, takes, deliverStep, settled, unless, acquire, release, deliver, perform, run}
 pub use Rattle.model.specs.Refusals.{refusalNumber, number}
-pub use Rattle.model.specs.Trace.{View, unseen, sameLock, sameClient, isAccepted, listedHome, joinsNow, toMachine, isGrantFor, showsGrant, afterAcquire}
-pub use Rattle.model.specs.Trace.{afterGrantIn, afterGrant, afterRelease, phaseAfter}
+pub use Rattle.model.specs.Trace.{View, unseen, isAccepted, toMachine, isGrantFor, showsGrant, afterAcquire}
+pub use Rattle.model.specs.Trace.{afterGrant, afterRelease, phaseAfter}
 unfoldable pub use Rattle.model.specs.Trace.{sees, watch}
-pub use Rattle.laws.specs.Tests.{and-left, and-right, both, or-left, or-right, bool-cases, pick-yes, pick-no}
+pub use Rattle.laws.specs.Tests.{and-left, and-right, both, or-left, or-right, bool-cases}
 pub use Rattle.laws.specs.Shapes.{packets-of, waiters-of}
 pub use Rattle.laws.specs.Formed.{slotIn, inParts}
 pub use Rattle.laws.specs.Parting.{Parting, done, first-leaves, first-stays, parting, none-leaves, length-joined}

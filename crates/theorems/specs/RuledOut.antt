@@ -5,18 +5,18 @@ use mathlib.Core.Bool.{not, true≢false}
 use mathlib.Core.List.{List, [], _∷_}
 use Prim.Native.Nat.{ℕ, zero, suc}
 use native.Mathlib.Omega.{arith}
-use Rattle.theorems.specs.Names.{LockId, MachineId, Mode, Shared, Owned, AgentSlot, Cluster, Call, AcquireCall, DeliverCall, LockRange, Refusal, Answer}
-use Rattle.theorems.specs.Names.{Accepted, Refused, Outcome, Malformed, LockState, Drained, locks, done}
+use Rattle.theorems.specs.Names.{LockId, MachineId, Mode, Shared, Unowned, Owned, AgentSlot, Cluster, Call, DeliverCall, LockRange, Refusal}
+use Rattle.theorems.specs.Names.{Answer, Accepted, Refused, Outcome, Malformed, LockState, Drained, locks, number}
 use lib.ListN.{length, getD}
 use lib.Dec.{leb}
 use Rattle.model.specs.States.{noAgent, wireOf, lockIn, freshLock}
 use Rattle.model.specs.WellFormed.{wellFormed}
 use Rattle.model.specs.Refusals.{_when_, first}
-use Rattle.model.specs.Calls.{perform, run, answersOf}
+use Rattle.model.specs.Calls.{perform, run}
 use Rattle.model.specs.Drain.{allowance, Next, none, some, nextCall, Quiescent, Drainage, drainage, drainCalls, drainRefused, drainEnded, drainUnless, drain}
 use Rattle.laws.specs.CallSteps.{lockOf, perform-elsewhere}
 use Rattle.laws.specs.Next.{NextIs, delivers-first, releases-holder, next-is}
-use Rattle.theorems.specs.Scenarios.{Result, scenarios, scenarios-hold, machine, on, acquires0, delivers0, with0, d1, d3-rejected, d4}
+use Rattle.theorems.specs.Scenarios.{D1, D1-drained, D4, D10, scenarios-hold, machine, on, acquires0, delivers0, lock8, with0, d1, d3-rejected, d4}
 
 abbrev pub Engine : Type 0
 Engine = Call → Cluster → Outcome
@@ -24,44 +24,23 @@ Engine = Call → Cluster → Outcome
 abbrev pub Meets : Engine → Type 0
 Meets e = (c : Call) (x : Cluster) → e c x ≡ perform c x
 
-abbrev pub answers : Engine → Call → Cluster → Answer
-answers e c x = e c x .answer
+-- the number of its answer
+abbrev pub answers : Engine → Call → Cluster → ℕ
+answers e c x = number (e c x .answer)
 
-apart : (r : Refusal) → Accepted ≡ Refused r → ⊥
-apart r e = let z : _≡_ {A = ℕ} 0 1 = cc in omega arith
+met : (e : Engine) → Meets e → (c : Call) (x : Cluster) → answers e c x ≡ number (perform c x .answer)
+met e m c x = ap (λ (o : Outcome). number (o .answer)) (m c x)
 
--- ---- what the scenarios say of single calls
-d1-answers : answersOf (acquires0 0 0 3 ∷ delivers0 0 ∷ []) (with0 freshLock) ≡ Accepted ∷ Accepted ∷ []
-unfolding scenarios
-d1-answers = ap (λ (r : Result). r .answers) (scenarios-hold .0)
+-- ---- what the scenarios say of single calls: D1's first is accepted, D10's lock 8 is refused
+d1-accepted : number (perform (acquires0 0 0 3) (with0 freshLock) .answer) ≡ 0
+d1-accepted = let h = scenarios-hold D1 .0 in cc
 
--- D1: the first acquire is accepted, and changes the cluster
-d1-accepted : perform (acquires0 0 0 3) (with0 freshLock) .answer ≡ Accepted
-d1-accepted = let h = d1-answers in cc
-
-d1-run : run (acquires0 0 0 3 ∷ delivers0 0 ∷ []) (with0 freshLock) ≡ with0 d1
-unfolding scenarios
-d1-run = ap (λ (r : Result). r .cluster) (scenarios-hold .0)
-
--- D10: lock 8 is refused
-lock8 : Call
-lock8 = AcquireCall (on 8) (machine 0) (record { 0 = 0 }) 1
-
-d10-refused : perform lock8 (with0 freshLock) .answer ≡ Refused LockRange
-unfolding scenarios lock8
-d10-refused = let h = ap (λ (r : Result). r .answers) (scenarios-hold .1 .1 .1 .1 .1 .1 .1 .1 .1 .1 .1 .1 .1 .0) in cc
-
--- D4: the delivery of the rejected FREE puts the agent on machine 0
-d4-run : perform (delivers0 2) (with0 d3-rejected) .cluster ≡ with0 d4
-unfolding scenarios run
-d4-run = ap (λ (r : Result). r .cluster) (scenarios-hold .1 .1 .1 .1 .1 .0)
+d10-refused : number (perform lock8 (with0 freshLock) .answer) ≡ 1
+d10-refused = let h = scenarios-hold D10 .0 in cc
 
 -- ---- an engine that refuses each step
-pub refuses-each : (e : Engine) → Meets e → ((c : Call) (x : Cluster) → (r : Refusal) × (answers e c x ≡ Refused r)) → ⊥
-refuses-each e m f =
-    let c = acquires0 0 0 3 in
-    let x = with0 freshLock in
-    apart (f c x .0) (sym d1-accepted ∙ sym (ap (λ (o : Outcome). o .answer) (m c x)) ∙ f c x .1)
+pub refuses-each : (e : Engine) → Meets e → ((c : Call) (x : Cluster) → answers e c x ≡ 0 → ⊥) → ⊥
+refuses-each e m f = f (acquires0 0 0 3) (with0 freshLock) (met e m _ _ ∙ d1-accepted)
 
 -- ---- one that answers 0 and changes nothing
 pub changes-nothing : (e : Engine) → Meets e → ((c : Call) (x : Cluster) → e c x .cluster ≡ x) → ⊥
@@ -70,26 +49,26 @@ changes-nothing e m f =
     let still : (c : Call) (x : Cluster) → perform c x .cluster ≡ x = λ c x. sym (ap (λ (o : Outcome). o .cluster) (m c x)) ∙ f c x in
     let x = with0 freshLock in
     let y = perform (acquires0 0 0 3) x .cluster in
-    let same : with0 d1 ≡ with0 freshLock = sym d1-run ∙ still (delivers0 0) y ∙ still (acquires0 0 0 3) x in
+    let same : with0 d1 ≡ with0 freshLock = sym (scenarios-hold D1 .1) ∙ still (delivers0 0) y ∙ still (acquires0 0 0 3) x in
     let z : _≡_ {A = ℕ} 1 0 = ap (λ (x : Cluster). lockIn x (on 0) .wire .len) same in
     omega arith
 
 -- ---- one with a single fixed answer
-pub answers-one : (e : Engine) (a : Answer) → Meets e → ((c : Call) (x : Cluster) → answers e c x ≡ a) → ⊥
-answers-one e a m f =
+pub answers-one : (e : Engine) (n : ℕ) → Meets e → ((c : Call) (x : Cluster) → answers e c x ≡ n) → ⊥
+answers-one e n m f =
     let x = with0 freshLock in
-    let yes : a ≡ Accepted = sym (f (acquires0 0 0 3) x) ∙ ap (λ (o : Outcome). o .answer) (m (acquires0 0 0 3) x) ∙ d1-accepted in
-    let no : a ≡ Refused LockRange = sym (f lock8 x) ∙ ap (λ (o : Outcome). o .answer) (m lock8 x) ∙ d10-refused in
-    apart LockRange (sym yes ∙ no)
+    let accepted : n ≡ 0 = sym (f _ x) ∙ met e m _ x ∙ d1-accepted in
+    let refused : n ≡ 1 = sym (f _ x) ∙ met e m _ x ∙ d10-refused in
+    omega arith
 
 -- ---- one that serves the first delivery of a lock and afterwards only shifts packets: a delivery on an owned lock leaves its agents
 pub shifts-only : (e : Engine) → Meets e → ((l : LockId) (i : ℕ) (x : Cluster) → (o : Mode) (k : MachineId) → lockIn x l .decider .owner ≡ Owned o k
     → lockIn (e (DeliverCall l i) x .cluster) l .agents ≡ lockIn x l .agents) → ⊥
-unfolding noAgent
+unfolding noAgent run
 shifts-only e m f =
     let x = with0 d3-rejected in
     let same : lockIn (e (delivers0 2) x .cluster) (on 0) .agents ≡ d3-rejected .agents = f (on 0) 2 x Shared (machine 0) refl in
-    let done : e (delivers0 2) x .cluster ≡ with0 d4 = ap (λ (o : Outcome). o .cluster) (m (delivers0 2) x) ∙ d4-run in
+    let done : e (delivers0 2) x .cluster ≡ with0 d4 = ap (λ (o : Outcome). o .cluster) (m (delivers0 2) x) ∙ scenarios-hold D4 .1 in
     true≢false (ap (λ (slots : List AgentSlot). getD slots 0 noAgent .present) (rw done at same))
 
 -- ---- drains: what a program answers to each drain of each cluster, made by hand or not
@@ -99,10 +78,44 @@ Drainer = Cluster → LockId → Drained
 abbrev pub MeetsDrain : Drainer → Type 0
 MeetsDrain f = (x : Cluster) (l : LockId) → f x l ≡ drain x l
 
--- what holds of the calls of any drain
+-- ---- the engine that only shifts packets, at the drain's end: it never writes the decider of an owned lock, so that no row of its calls frees one; the
+-- drain of D1's cluster does
+abbrev pub Shifts : Engine → Type 0
+Shifts e =
+    (c : Call) (x : Cluster) (l : LockId) (o : Mode) (k : MachineId) → lockIn x l .decider .owner ≡ Owned o k
+    → lockIn (e c x .cluster) l .decider .owner ≡ Owned o k
+
+abbrev pub runBy : Engine → List Call → Cluster → Cluster
+runBy e [] x = x
+runBy e (c ∷ cs) x = runBy e cs (e c x .cluster)
+
+-- each drain is some row of the engine's calls
+abbrev pub DrainsBy : Engine → Drainer → Type 0
+DrainsBy e f = (x : Cluster) (l : LockId) → (cs : List Call) × (f x l .cluster ≡ runBy e cs x)
+
+stays-owned : (e : Engine) → Shifts e → (cs : List Call) (x : Cluster) (l : LockId) (o : Mode) (k : MachineId) → lockIn x l .decider .owner ≡ Owned o k
+    → lockIn (runBy e cs x) l .decider .owner ≡ Owned o k
+stays-owned e h [] x l o k q = q
+stays-owned e h (c ∷ cs) x l o k q = stays-owned e h cs (e c x .cluster) l o k (h c x l o k q)
+
+pub shifts-only-drained : (e : Engine) (f : Drainer) → MeetsDrain f → Shifts e → DrainsBy e f → ⊥
+unfolding freshLock
+shifts-only-drained e f m h by =
+    let x = with0 d1 in
+    let made = by x (on 0) in
+    let kept : lockIn (runBy e (made .0) x) (on 0) .decider .owner ≡ Owned Shared (machine 0) = stays-owned e h (made .0) x (on 0) Shared (machine 0) refl in
+    let freed : runBy e (made .0) x ≡ with0 freshLock = sym (made .1) ∙ ap (λ (d : Drained). d .cluster) (m x (on 0)) ∙ scenarios-hold D1-drained .2 in
+    let clash : Unowned ≡ Owned Shared (machine 0) = rw freed at kept in
+    let z : _≡_ {A = ℕ} 0 1 = cc in
+    omega arith
+
+-- ---- what holds of the calls of any drain
 record Own (x : Cluster) (l : LockId) (d : Drainage) : Type 0 where
   quiescent : d .answer ≡ Accepted → Quiescent l (lockIn (d .cluster) l)
   others : (j : LockId) → (j .0 ≡ l .0 → ⊥) → lockIn (d .cluster) j ≡ lockIn x j
+
+apart : (r : Refusal) → Accepted ≡ Refused r → ⊥
+apart r e = let z : _≡_ {A = ℕ} 0 1 = cc in omega arith
 
 next-lock : {l : LockId} {s : LockState} {a : Call} → NextIs l s a → lockOf a ≡ l
 next-lock (delivers-first b) = refl

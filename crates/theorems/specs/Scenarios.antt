@@ -1,15 +1,14 @@
 -- The scenarios of document 01 that are marked to be proved (D1 to D10), and one for each of its tempting faults: each a start state,
--- calls on lock 0, and the answers and the whole state of lock 0 that follow. One list, one theorem, by computation.
+-- calls on lock 0, and the numbers of the answers and the whole cluster that follow. One list, by name, and one theorem, by computation.
 use mathlib.Core.Path.{_≡_, refl}
 use mathlib.Core.Bool.{Bool, true, false}
-use mathlib.Core.List.{List, [], _∷_}
+use mathlib.Core.List.{List, [], _∷_, map}
 use Prim.Native.Nat.{ℕ}
 use lib.ListN.{set, replicate}
 use Rattle.model.specs.Lists.{padded, removed}
 use Rattle.theorems.specs.Names.{LockId, MachineId, ClientId, Mode, Exclusive, Shared, Owned, Decider, Waiter, Agent, AgentSlot, ToDecider, ToMachine}
 use Rattle.theorems.specs.Names.{Message, Free, Acquire, Grant, Release, Packet, Status, Waiting, Holding, ClientState, LockState, Cluster, Call}
-use Rattle.theorems.specs.Names.{AcquireCall, ReleaseCall, DeliverCall, LockRange, StillNamed, Answer, Accepted, Refused, locks, machines, clients}
-use Rattle.theorems.specs.Names.{carrying, resent, mayJoin, mayShare}
+use Rattle.theorems.specs.Names.{AcquireCall, ReleaseCall, DeliverCall, locks, machines, clients, carrying, resent, mayJoin, mayShare, number}
 use Rattle.model.specs.States.{queueOf, waiters, noHolders, newAgent, someAgent, noAgent, idle, plain, blankPacket, wireOf, packets, freshLock}
 use Rattle.model.specs.WellFormed.{shaped, isBlankWaiter, distinct, queueFormed, agentFormed, isBlankAgent, slotFormed, messageFormed, packetFormed}
 use Rattle.model.specs.WellFormed.{isBlankPacket, wireFormed, lockFormed, wellFormed}
@@ -20,23 +19,7 @@ use Rattle.model.specs.AtMachine.{admitted, staying, joined, installs, grantArr
 use Rattle.model.specs.AtMachine.{freeArrives, arrives, atMachine}
 use Rattle.model.specs.Refusals.{first}
 use Rattle.model.specs.Calls.{delivers, acquireStep, releaseStep, takes, deliverStep, settled, unless, acquire, release, deliver, perform, run, answersOf}
-
-pub record Result : Type 0 where
-  pub answers : List Answer
-  pub cluster : Cluster
-
-pub record Scenario : Type 0 where
-  pub start : Cluster
-  pub calls : List Call
-  pub result : Result
-
-abbrev pub resultOf : Scenario → Result
-resultOf s = record { answers = answersOf (s .calls) (s .start); cluster = run (s .calls) (s .start) }
-
--- each scenario's calls, run from its start, give its answers and its cluster
-abbrev pub Hold : List Scenario → Type 0
-Hold [] = Unit {0}
-Hold (s ∷ ss) = (resultOf s ≡ s .result) × Hold ss
+use Rattle.model.specs.Drain.{releaseFirst, nextOf, drainage, drainEnded, drainUnless, drain}
 
 -- ---- words for states and calls: clients 0/0, 0/1 and 1/0 are 0, 1 and 4, and 2/0 is 8
 abbrev pub machine : ℕ → MachineId
@@ -56,6 +39,10 @@ releases0 k t = ReleaseCall (on 0) (machine k) (record { 0 = t })
 
 abbrev pub delivers0 : ℕ → Call
 delivers0 i = DeliverCall (on 0) i
+
+-- no such lock, and no such mode
+abbrev pub lock8 : Call
+lock8 = AcquireCall (on 8) (machine 0) (record { 0 = 0 }) 1
 
 abbrev owned : Mode → ℕ → ℕ → Decider
 owned m k n = record { owner = Owned m (machine k); incarnation = n }
@@ -95,11 +82,17 @@ lock d slots cs ps = record { decider = d; agents = slots; clients = cs; wire = 
 abbrev pub with0 : LockState → Cluster
 with0 s = record { locks = s ∷ replicate 7 freshLock }
 
-abbrev from : LockState → List Call → List Answer → LockState → Scenario
-from s cs answers t = record { start = with0 s; calls = cs; result = record { answers = answers; cluster = with0 t } }
+-- ---- what a scenario says
+pub data Scenario : Type 0 where
+  -- from this state of lock 0: calls, the numbers of their answers, and the state after them
+  from : LockState → List Call → List ℕ → LockState → Scenario
+  -- from this state of lock 0: the number of its drain's answer, the drain's steps, and the state after it
+  drained : LockState → ℕ → ℕ → LockState → Scenario
 
-abbrev ok : Answer
-ok = Accepted
+abbrev pub Holds : Scenario → Type 0
+Holds (from s cs ns t) = (map number (answersOf cs (with0 s)) ≡ ns) × (run cs (with0 s) ≡ with0 t)
+Holds (drained s n steps t) =
+    (number (drain (with0 s) (on 0) .answer) ≡ n) × (drain (with0 s) (on 0) .count ≡ steps) × (drain (with0 s) (on 0) .cluster ≡ with0 t)
 
 -- ---- the states that the scenarios reach
 abbrev firstAgent : Agent
@@ -201,44 +194,59 @@ abbrev f-requeued : LockState
 f-requeued = lock (owned Shared 0 1) (on0 (queue (waits 4 ∷ waits 8 ∷ []) (agent Shared [] 0))) asking []
 
 -- ---- the list, and the theorem
-unfoldable pub scenarios : List Scenario
-scenarios =
-    -- D1
-    from freshLock (acquires0 0 0 3 ∷ delivers0 0 ∷ []) (ok ∷ ok ∷ []) d1
-    ∷ from d1 (delivers0 0 ∷ []) (ok ∷ []) d1-held
-    -- D2
-    ∷ from d1-held (acquires0 1 0 3 ∷ delivers0 0 ∷ []) (ok ∷ ok ∷ []) d2
-    -- D3
-    ∷ from d2 (releases0 0 0 ∷ []) (ok ∷ []) d3
-    ∷ from d3 (delivers0 2 ∷ []) (ok ∷ []) d3-rejected
-    -- D4
-    ∷ from d3-rejected (delivers0 2 ∷ []) (ok ∷ []) d4
-    -- D5
-    ∷ from d4 (delivers0 1 ∷ []) (ok ∷ []) d5
-    -- D6
-    ∷ from d2 (delivers0 0 ∷ releases0 1 0 ∷ delivers0 1 ∷ delivers0 1 ∷ []) (replicate 4 ok) d6
-    -- D7: as long as its RELEASE is under way, 1/0 may not ask again
-    ∷ from d6 (acquires0 1 0 3 ∷ []) (Refused StillNamed ∷ []) d6
-    -- D8
-    ∷ from freshLock (acquires0 0 0 2 ∷ delivers0 0 ∷ delivers0 0 ∷ acquires0 1 0 2 ∷ delivers0 0 ∷ delivers0 0 ∷ []) (replicate 6 ok) d8-queued
-    ∷ from d8-queued (releases0 0 0 ∷ delivers0 0 ∷ []) (ok ∷ ok ∷ []) d8
-    -- D9
-    ∷ from d9-start (acquires0 1 0 3 ∷ delivers0 0 ∷ []) (ok ∷ ok ∷ []) d9
-    ∷ from d9 (delivers0 1 ∷ []) (ok ∷ []) d9-agent
-    -- D10: of two wrong numbers, the lock's is answered
-    ∷ from freshLock (AcquireCall (on 8) (machine 0) (record { 0 = 0 }) 1 ∷ []) (Refused LockRange ∷ []) freshLock
-    -- the tempting faults
-    ∷ from d3 (delivers0 1 ∷ delivers0 2 ∷ []) (ok ∷ ok ∷ []) f-marked
-    ∷ from d1-held (acquires0 0 1 3 ∷ []) (ok ∷ []) f-local
-    ∷ from f-unmarked (delivers0 0 ∷ []) (ok ∷ []) f-granted
-    ∷ from f-rejected (delivers0 0 ∷ []) (ok ∷ []) f-requeued
-    ∷ []
+pub data Name : Type 0 where
+  D1 D1-arrived D1-drained D2 D3 D3-rejected D4 D5 D6 D7 D8-queued D8 D9 D9-agent D10 : Name
+  marked-returns granted-locally unmarked-joins waiter-returns : Name
 
-pub scenarios-hold : Hold scenarios
-unfolding scenarios run perform acquire release deliver unless settled first acquireStep releaseStep deliverStep takes finish delivers
+abbrev pub scenarios : Name → Scenario
+scenarios D1 = from freshLock (acquires0 0 0 3 ∷ delivers0 0 ∷ []) (0 ∷ 0 ∷ []) d1
+scenarios D1-arrived = from d1 (delivers0 0 ∷ []) (0 ∷ []) d1-held
+-- the GRANT arrives, 0/0 releases, and the FREE ends it
+scenarios D1-drained = drained d1 0 3 freshLock
+scenarios D2 = from d1-held (acquires0 1 0 3 ∷ delivers0 0 ∷ []) (0 ∷ 0 ∷ []) d2
+scenarios D3 = from d2 (releases0 0 0 ∷ []) (0 ∷ []) d3
+scenarios D3-rejected = from d3 (delivers0 2 ∷ []) (0 ∷ []) d3-rejected
+scenarios D4 = from d3-rejected (delivers0 2 ∷ []) (0 ∷ []) d4
+scenarios D5 = from d4 (delivers0 1 ∷ []) (0 ∷ []) d5
+scenarios D6 = from d2 (delivers0 0 ∷ releases0 1 0 ∷ delivers0 1 ∷ delivers0 1 ∷ []) (replicate 4 0) d6
+-- as long as its RELEASE is under way, 1/0 may not ask again
+scenarios D7 = from d6 (acquires0 1 0 3 ∷ []) (6 ∷ []) d6
+scenarios D8-queued =
+    from freshLock (acquires0 0 0 2 ∷ delivers0 0 ∷ delivers0 0 ∷ acquires0 1 0 2 ∷ delivers0 0 ∷ delivers0 0 ∷ []) (replicate 6 0) d8-queued
+scenarios D8 = from d8-queued (releases0 0 0 ∷ delivers0 0 ∷ []) (0 ∷ 0 ∷ []) d8
+scenarios D9 = from d9-start (acquires0 1 0 3 ∷ delivers0 0 ∷ []) (0 ∷ 0 ∷ []) d9
+scenarios D9-agent = from d9 (delivers0 1 ∷ []) (0 ∷ []) d9-agent
+-- of two wrong numbers, the lock's is answered
+scenarios D10 = from freshLock (lock8 ∷ []) (1 ∷ []) freshLock
+-- the tempting faults
+scenarios marked-returns = from d3 (delivers0 1 ∷ delivers0 2 ∷ []) (0 ∷ 0 ∷ []) f-marked
+scenarios granted-locally = from d1-held (acquires0 0 1 3 ∷ []) (0 ∷ []) f-local
+scenarios unmarked-joins = from f-unmarked (delivers0 0 ∷ []) (0 ∷ []) f-granted
+scenarios waiter-returns = from f-rejected (delivers0 0 ∷ []) (0 ∷ []) f-requeued
+
+pub scenarios-hold : (n : Name) → Holds (scenarios n)
+unfolding run perform acquire release deliver unless settled first acquireStep releaseStep deliverStep takes finish delivers
+    drain drainUnless drainEnded drainage nextOf releaseFirst
     wellFormed lockFormed wireFormed packetFormed messageFormed slotFormed agentFormed isBlankAgent isBlankPacket isBlankWaiter queueFormed distinct shaped
     atDecider decides decidesAcquire decidesFree decidesGrant toOwner atMachine arrives acquireArrives releaseArrives freeArrives marked unmarked
     grantArrives rejectedGrantArrives mayShare mayJoin installs admitted staying joined clientAcquires clientAsks clientReleases staysIf handOver
     padded removed queueOf waiters noAgent blankPacket wireOf packets freshLock
-scenarios-hold =
-    (refl, (refl, (refl, (refl, (refl, (refl, (refl, (refl, (refl, (refl, (refl, (refl, (refl, (refl, (refl, (refl, (refl, (refl, tt))))))))))))))))))
+scenarios-hold D1 = (refl, refl)
+scenarios-hold D1-arrived = (refl, refl)
+scenarios-hold D1-drained = (refl, refl, refl)
+scenarios-hold D2 = (refl, refl)
+scenarios-hold D3 = (refl, refl)
+scenarios-hold D3-rejected = (refl, refl)
+scenarios-hold D4 = (refl, refl)
+scenarios-hold D5 = (refl, refl)
+scenarios-hold D6 = (refl, refl)
+scenarios-hold D7 = (refl, refl)
+scenarios-hold D8-queued = (refl, refl)
+scenarios-hold D8 = (refl, refl)
+scenarios-hold D9 = (refl, refl)
+scenarios-hold D9-agent = (refl, refl)
+scenarios-hold D10 = (refl, refl)
+scenarios-hold marked-returns = (refl, refl)
+scenarios-hold granted-locally = (refl, refl)
+scenarios-hold unmarked-joins = (refl, refl)
+scenarios-hold waiter-returns = (refl, refl)

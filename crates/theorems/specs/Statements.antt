@@ -1,4 +1,5 @@
--- What is proved, in Theorems and Drains, of every list of calls on a fresh cluster. Past the last, a lock reads as fresh and a client as idle.
+-- What is proved, in Theorems and Drains: of the numbers of answers, and of every list of calls on a fresh cluster. Past the last, a lock reads as fresh
+-- and a client as idle.
 use Rattle.laws.specs.CallSteps.{lockOf}
 use Rattle.model.specs.Drain.{allowance, Quiescent, drainCalls, drain}
 use Rattle.model.specs.Trace.{isAccepted, grantsIn}
@@ -7,6 +8,11 @@ use Rattle.theorems.specs.Names.{_<_, length, eqb, leb, all, statusOf, l
 use Rattle.theorems.specs.Names.{after, perform, number, phaseAfter, _+_, _-_, _*_, locks, clients, wireCapacity}
 use Rattle.theorems.specs.Tally.{tally}
 use Rattle.theorems.specs.Weights.{markP}
+
+-- Different answers have different numbers, and 0 is the number of the accepted alone.
+pub record Numbered : Type 0 where
+  pub apart : (a b : Answer) → number a ≡ number b → a ≡ b
+  pub accepts : (a : Answer) → number a ≡ 0 → a ≡ Accepted
 
 -- The cluster is well formed after the list, so refusal 11 does not occur.
 abbrev pub StaysFormed : List Call → Type 0
@@ -44,8 +50,8 @@ provedBound = (7 * clients + 2) * (3 * wireCapacity) + (3 * wireCapacity - 1)
 
 -- A drain of the lock l on the cluster x, in which each client's phase is given.
 pub record Drains (x : Cluster) (l : LockId) (phase : ClientId → Status) : Type 0 where
-  -- It is accepted, and so is each of its calls; they alone make its cluster, and its count is theirs.
-  pub answered : drain x l .answer ≡ Accepted
+  -- It answers 0, and each of its calls is accepted; they alone make its cluster, and its count is theirs.
+  pub answered : number (drain x l .answer) ≡ 0
   pub counted : drain x l .count ≡ length (drainCalls l x)
   pub runs : drain x l .cluster ≡ run (drainCalls l x) x
   pub accepted : all isAccepted (answersOf (drainCalls l x) x) ≡ true

@@ -1,8 +1,10 @@
--- The proofs of the statements, for every list of calls.
+-- The proofs of the statements: the numbers, then for every list of calls.
 use Rattle.laws.specs.CallSteps.{perform-elsewhere}
 use Rattle.theorems.specs.Names.{Packet, LockState, Cluster, Call, Answer, _≡_, refl, sym, ap, _∙_, true, List, [], _∷_, ℕ, _≤_, _<_, arith, length, eqb}
 use Rattle.theorems.specs.Names.{leb, eqb-true, eqb-false, eq-eqb, ne-eqb, le-leb, all, removed, statusOf, lockIn, packets, fresh, current, packetAt}
-use Rattle.theorems.specs.Names.{answersOf, after, perform, number, unseen, both, bool-cases}
+use Rattle.theorems.specs.Names.{answersOf, after, perform, number, unseen, both, bool-cases, map, getD, Accepted, Refused, Malformed, LockRange}
+use Rattle.theorems.specs.Names.{MachineRange, TaskRange, ModeRange, NotIdle, StillNamed, NotHolding, IndexRange, CannotPlace, WireFull, BadRecord}
+use Rattle.theorems.specs.Names.{TranscriptLength, NotQuiescent}
 use Rattle.theorems.specs.Tally.{tally}
 use Rattle.theorems.specs.Weights.{agentS, agentP, incarnationS, incarnationP, markP, fitsP, misfitP}
 use Rattle.theorems.specs.Invariant.{Inv}
@@ -12,8 +14,43 @@ use Rattle.theorems.specs.Fresh.{all-idle}
 use Rattle.theorems.specs.Exclusion.{carried-away, one-exclusive}
 use Rattle.theorems.specs.Runs.{Reached, lock-fresh, reached-fresh, reached-next, reached, number-below}
 use Rattle.theorems.specs.Traced.{agrees}
-use Rattle.theorems.specs.Statements.{StaysFormed, NeverRefusedInside, WireBounded, OthersUntouched, Exclusion, TraceAgrees, ExclusionOfTrace}
-use Rattle.theorems.specs.Statements.{IncarnationSound}
+use Rattle.theorems.specs.Statements.{Numbered, StaysFormed, NeverRefusedInside, WireBounded, OthersUntouched, Exclusion, TraceAgrees}
+use Rattle.theorems.specs.Statements.{ExclusionOfTrace, provedBound, IncarnationSound}
+
+-- the answers in the order of their numbers
+abbrev table : List Answer
+table =
+    Accepted
+    ∷ map Refused
+    (LockRange ∷ MachineRange ∷ TaskRange ∷ ModeRange ∷ NotIdle ∷ StillNamed ∷ NotHolding ∷ IndexRange ∷ CannotPlace ∷ WireFull ∷ Malformed ∷ BadRecord
+    ∷ TranscriptLength ∷ NotQuiescent ∷ [])
+
+stands : (a : Answer) → getD table (number a) Accepted ≡ a
+stands Accepted = refl
+stands (Refused Malformed) = refl
+stands (Refused LockRange) = refl
+stands (Refused MachineRange) = refl
+stands (Refused TaskRange) = refl
+stands (Refused ModeRange) = refl
+stands (Refused NotIdle) = refl
+stands (Refused StillNamed) = refl
+stands (Refused NotHolding) = refl
+stands (Refused IndexRange) = refl
+stands (Refused CannotPlace) = refl
+stands (Refused WireFull) = refl
+stands (Refused BadRecord) = refl
+stands (Refused TranscriptLength) = refl
+stands (Refused NotQuiescent) = refl
+
+numbers-apart : (a b : Answer) → number a ≡ number b → a ≡ b
+numbers-apart a b e = sym (stands a) ∙ ap (λ (n : ℕ). getD table n Accepted) e ∙ stands b
+
+pub numbered : Numbered
+numbered = record { apart = numbers-apart; accepts = λ a e. numbers-apart a Accepted e }
+
+-- the number that README gives for the drain's bound
+pub proved-bound-is : provedBound ≡ 11384
+proved-bound-is = refl
 
 pub stays-formed : (cs : List Call) → StaysFormed cs
 stays-formed cs = reached cs .formed

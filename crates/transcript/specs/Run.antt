@@ -88,7 +88,7 @@ module _ (left : ℕ) (bytes : List ℕ) (i n : ℕ) (x : Cluster) where
 
   from-end : readRecord bytes i ≡ End → replayFrom (suc left) bytes i n x ≡ replayed Accepted n x
   unfolding replayFrom
-  from-end e = rw (e, replayFrom)
+  from-end e = let z : n + 0 ≡ n = omega arith in rw (e, replayFrom, z)
 
 -- ---- At the position i with n records behind it the cluster is y, and the rest of the run from there is the whole run.
 pub record Progress (bytes : List ℕ) (x : Cluster) (i n : ℕ) (y : Cluster) : Type 0 where
