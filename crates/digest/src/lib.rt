@@ -1,6 +1,12 @@
-// The digest of docs/random-runs.md: 'Numbers and digest' and 'The bytes of a cluster'.
+// The digest of docs/random-runs.md: 'Numbers and digest' and 'The bytes of a cluster'. Each function goes on from h over the bytes of its part.
 ghost use mathlib.Core.Path.{_≡_};
-ghost use Prim.Native.Nat.{_+_, _*_, _%_};
+ghost use mathlib.Core.List.{[], _∷_};
+ghost use Prim.Native.Nat.{min};
+ghost use lib.ListN.{take};
+ghost use Rattle.model.specs.declared.Status.the-variants.{Holding};
+ghost use Rattle.model.specs.States.{modeNumber};
+ghost use Rattle.digest.specs.Bytes.{digestOf, each, flagNumber, flagBytes, ownerBytes, deciderBytes, waiterBytes, queueBytes, agentBytes, slotBytes};
+ghost use Rattle.digest.specs.Bytes.{statusNumber, clientBytes, messageBytes, addressBytes, packetBytes, wireBytes, lockBytes, clusterBytes};
 use model::Address;
 use model::Agent;
 use model::AgentSlot;
@@ -22,78 +28,119 @@ use model::WIRE_CAPACITY;
 use model::Waiter;
 use model::Wire;
 
-// The digest h goes on by one byte.
 pub fn byte(h: u32, b: u8) -> u32
-    ensures { λ r. ⌜ r ≡ (h * 65599 + b + 1) % 4294967291 ⌝ }
+    ensures { λ r. ⌜ r ≡ digestOf h (b ∷ []) ⌝ }
 {
     ((h as u64 * 65599 + b as u64 + 1) % 4294967291) as u32
 }
 
-fn flag(h: u32, b: bool) -> u32 {
-    if b { byte(h, 1) } else { byte(h, 0) }
+fn two(h: u32, a: u8, b: u8) -> u32
+    ensures { λ r. ⌜ r ≡ digestOf h (a ∷ b ∷ []) ⌝ }
+{
+    byte(byte(h, a), b)
 }
 
-fn mode_number(m: Mode) -> u8 {
+fn four(h: u32, a: u8, b: u8, c: u8, d: u8) -> u32
+    ensures { λ r. ⌜ r ≡ digestOf h (a ∷ b ∷ c ∷ d ∷ []) ⌝ }
+{
+    two(two(h, a, b), c, d)
+}
+
+fn flag_number(b: bool) -> u8
+    ensures { λ r. ⌜ r ≡ flagNumber b ⌝ }
+{
+    if b { 1 } else { 0 }
+}
+
+fn mode_number(m: Mode) -> u8
+    ensures { λ r. ⌜ r ≡ modeNumber m ⌝ }
+{
     match m {
         Mode::Exclusive => 2,
         Mode::Shared => 3,
     }
 }
 
-// Item 1: mode and machine, which are 0 when free, and incarnation.
-fn decider(h: u32, d: Decider) -> u32 {
-    let o = d.owner;
-    let n = d.incarnation;
+// A length may be above the capacity in a malformed cluster.
+fn least(n: u8, most: usize) -> usize
+    ensures { λ r. ⌜ r ≡ min n most ⌝ }
+{
+    let n = n as usize;
+    if n < most { n } else { most }
+}
+
+// ---- item 1
+fn owner(h: u32, o: Owner) -> u32
+    ensures { λ r. ⌜ r ≡ digestOf h (ownerBytes o) ⌝ }
+{
     match o {
-        Owner::Free => byte(byte(byte(h, 0), 0), n),
-        Owner::Owned(m, k) => byte(byte(byte(h, mode_number(m)), k.0), n),
+        Owner::Free => two(h, 0, 0),
+        Owner::Owned(m, k) => two(h, mode_number(m), k.0),
     }
 }
 
-fn holders(h: u32, set: [bool; CLIENTS]) -> u32 {
-    let mut h = h;
-    for i in 0..CLIENTS {
-        h = flag(h, set[i]);
-    }
-    h
+fn decider(h: u32, d: Decider) -> u32
+    ensures { λ r. ⌜ r ≡ digestOf h (deciderBytes d) ⌝ }
+{
+    let o = d.owner;
+    byte(owner(h, o), d.incarnation)
 }
 
-fn waiter(h: u32, w: Waiter) -> u32 {
+// ---- item 2
+fn holders(h: u32, a: [bool; CLIENTS]) -> u32
+    ensures { λ r. ⌜ r ≡ digestOf h (each flagBytes a) ⌝ }
+{
+    let mut g = h;
+    let mut j: usize = 0;
+    while j < CLIENTS {
+        g = byte(g, flag_number(a[j]));
+        j += 1;
+    }
+    g
+}
+
+fn waiter(h: u32, w: Waiter) -> u32
+    ensures { λ r. ⌜ r ≡ digestOf h (waiterBytes w) ⌝ }
+{
     let c = w.client;
     let m = w.mode;
-    byte(byte(h, c.0), mode_number(m))
+    two(h, c.0, mode_number(m))
 }
 
-// The queue's length may be above its capacity in a malformed cluster.
-fn queue(h: u32, q: Queue) -> u32 {
-    let n = q.len;
-    let slots = q.slots;
-    waiters(byte(h, n), slots, n)
-}
-
-fn waiters(h: u32, slots: [Waiter; QUEUE_CAPACITY], n: u8) -> u32 {
-    let mut h = h;
-    for i in 0..QUEUE_CAPACITY {
-        if n as usize <= i {
-            return h;
-        }
-        h = waiter(h, slots[i]);
+fn first_waiters(h: u32, a: [Waiter; QUEUE_CAPACITY], n: u8) -> u32
+    ensures { λ r. ⌜ r ≡ digestOf h (each waiterBytes (take n a)) ⌝ }
+{
+    let m = least(n, QUEUE_CAPACITY);
+    let mut g = h;
+    let mut j: usize = 0;
+    while j < m {
+        let w = a[j];
+        g = waiter(g, w);
+        j += 1;
     }
-    h
+    g
 }
 
-fn agent(h: u32, a: Agent) -> u32 {
+fn queue(h: u32, q: Queue) -> u32
+    ensures { λ r. ⌜ r ≡ digestOf h (queueBytes q) ⌝ }
+{
+    let n = q.len;
+    let a = q.slots;
+    first_waiters(byte(h, n), a, n)
+}
+
+fn agent(h: u32, a: Agent) -> u32
+    ensures { λ r. ⌜ r ≡ digestOf h (agentBytes a) ⌝ }
+{
     let m = a.mode;
-    let set = a.holders;
+    let s = a.holders;
     let q = a.queue;
-    queue(
-        holders(byte(byte(h, mode_number(m)), a.incarnation), set),
-        q,
-    )
+    queue(holders(two(h, mode_number(m), a.incarnation), s), q)
 }
 
-// A byte that says whether there is an agent, and the agent.
-fn agent_slot(h: u32, x: AgentSlot) -> u32 {
+fn agent_slot(h: u32, x: AgentSlot) -> u32
+    ensures { λ r. ⌜ r ≡ digestOf h (slotBytes x) ⌝ }
+{
     if x.present {
         let a = x.agent;
         agent(byte(h, 1), a)
@@ -102,91 +149,119 @@ fn agent_slot(h: u32, x: AgentSlot) -> u32 {
     }
 }
 
-// Item 2.
-fn agents(h: u32, slots: [AgentSlot; MACHINES]) -> u32 {
-    let mut h = h;
-    for i in 0..MACHINES {
-        h = agent_slot(h, slots[i]);
+fn agents(h: u32, a: [AgentSlot; MACHINES]) -> u32
+    ensures { λ r. ⌜ r ≡ digestOf h (each slotBytes a) ⌝ }
+{
+    let mut g = h;
+    let mut j: usize = 0;
+    while j < MACHINES {
+        let x = a[j];
+        g = agent_slot(g, x);
+        j += 1;
     }
-    h
+    g
 }
 
-fn status_number(s: Status) -> u8 {
+// ---- item 3
+fn holding_number(m: Mode) -> u8
+    ensures { λ r. ⌜ r ≡ statusNumber (Holding m) ⌝ }
+{
+    match m {
+        Mode::Exclusive => 6,
+        Mode::Shared => 7,
+    }
+}
+
+fn status_number(s: Status) -> u8
+    ensures { λ r. ⌜ r ≡ statusNumber s ⌝ }
+{
     match s {
         Status::Idle => 0,
         Status::Waiting(m) => mode_number(m),
-        Status::Holding(m) => match m {
-            Mode::Exclusive => 6,
-            Mode::Shared => 7,
-        },
+        Status::Holding(m) => holding_number(m),
     }
 }
 
-fn client(h: u32, c: ClientState) -> u32 {
+fn client(h: u32, c: ClientState) -> u32
+    ensures { λ r. ⌜ r ≡ digestOf h (clientBytes c) ⌝ }
+{
     let s = c.status;
     byte(h, status_number(s))
 }
 
-// Item 3.
-fn clients(h: u32, states: [ClientState; CLIENTS]) -> u32 {
-    let mut h = h;
-    for i in 0..CLIENTS {
-        h = client(h, states[i]);
+fn clients(h: u32, a: [ClientState; CLIENTS]) -> u32
+    ensures { λ r. ⌜ r ≡ digestOf h (each clientBytes a) ⌝ }
+{
+    let mut g = h;
+    let mut j: usize = 0;
+    while j < CLIENTS {
+        let c = a[j];
+        g = client(g, c);
+        j += 1;
     }
-    h
+    g
 }
 
-// Kind, client, mode, granted.
-fn message(h: u32, m: Message) -> u32 {
+// ---- item 4
+fn message(h: u32, m: Message) -> u32
+    ensures { λ r. ⌜ r ≡ digestOf h (messageBytes m) ⌝ }
+{
     match m {
         Message::Acquire {
             client,
             mode,
             granted,
-        } => flag(byte(byte(byte(h, 1), client.0), mode_number(mode)), granted),
-        Message::Grant { client, mode } => byte(
-            byte(byte(byte(h, 2), client.0), mode_number(mode)),
-            0,
-        ),
-        Message::Release { client } => byte(byte(byte(byte(h, 3), client.0), 0), 0),
-        Message::Free => byte(byte(byte(byte(h, 4), 0), 0), 0),
+        } => four(h, 1, client.0, mode_number(mode), flag_number(granted)),
+        Message::Grant { client, mode } => four(h, 2, client.0, mode_number(mode), 0),
+        Message::Release { client } => four(h, 3, client.0, 0, 0),
+        Message::Free => four(h, 4, 0, 0, 0),
     }
 }
 
-fn address(h: u32, a: Address) -> u32 {
-    match a {
-        Address::Decider => byte(byte(h, 0), 0),
-        Address::Machine(k) => byte(byte(h, 1), k.0),
+fn address(h: u32, t: Address) -> u32
+    ensures { λ r. ⌜ r ≡ digestOf h (addressBytes t) ⌝ }
+{
+    match t {
+        Address::Decider => two(h, 0, 0),
+        Address::Machine(k) => two(h, 1, k.0),
     }
 }
 
-fn packet(h: u32, p: Packet) -> u32 {
+fn packet(h: u32, p: Packet) -> u32
+    ensures { λ r. ⌜ r ≡ digestOf h (packetBytes p) ⌝ }
+{
     let m = p.message;
-    let a = p.to;
+    let t = p.to;
     let x = p.carried;
-    agent_slot(flag(address(message(h, m), a), p.rejected), x)
+    agent_slot(byte(address(message(h, m), t), flag_number(p.rejected)), x)
 }
 
-// Item 4. The wire's length may be above its capacity in a malformed cluster.
-fn wire(h: u32, w: Wire) -> u32 {
-    let n = w.len;
-    let slots = w.slots;
-    packets(byte(h, n), slots, n)
-}
-
-fn packets(h: u32, slots: [Packet; WIRE_CAPACITY], n: u8) -> u32 {
-    let mut h = h;
-    for i in 0..WIRE_CAPACITY {
-        if n as usize <= i {
-            return h;
-        }
-        h = packet(h, slots[i]);
+fn first_packets(h: u32, a: [Packet; WIRE_CAPACITY], n: u8) -> u32
+    ensures { λ r. ⌜ r ≡ digestOf h (each packetBytes (take n a)) ⌝ }
+{
+    let m = least(n, WIRE_CAPACITY);
+    let mut g = h;
+    let mut j: usize = 0;
+    while j < m {
+        let p = a[j];
+        g = packet(g, p);
+        j += 1;
     }
-    h
+    g
 }
 
-// Items 1 to 4.
-fn lock_state(h: u32, s: LockState) -> u32 {
+fn wire(h: u32, w: Wire) -> u32
+    ensures { λ r. ⌜ r ≡ digestOf h (wireBytes w) ⌝ }
+{
+    let n = w.len;
+    let a = w.slots;
+    first_packets(byte(h, n), a, n)
+}
+
+// ---- locks
+fn lock_state(h: u32, s: LockState) -> u32
+    ensures { λ r. ⌜ r ≡ digestOf h (lockBytes s) ⌝ }
+{
     let d = s.decider;
     let a = s.agents;
     let c = s.clients;
@@ -194,12 +269,22 @@ fn lock_state(h: u32, s: LockState) -> u32 {
     wire(clients(agents(decider(h, d), a), c), w)
 }
 
-// Every lock, from 0 on.
-pub fn cluster(h: u32, x: Cluster) -> u32 {
-    let mut h = h;
-    for i in 0..LOCKS {
-        let s = x.locks[i];
-        h = lock_state(h, s);
+fn locks(h: u32, a: [LockState; LOCKS]) -> u32
+    ensures { λ r. ⌜ r ≡ digestOf h (each lockBytes a) ⌝ }
+{
+    let mut g = h;
+    let mut j: usize = 0;
+    while j < LOCKS {
+        let s = a[j];
+        g = lock_state(g, s);
+        j += 1;
     }
-    h
+    g
+}
+
+pub fn cluster(h: u32, x: Cluster) -> u32
+    ensures { λ r. ⌜ r ≡ digestOf h (clusterBytes x) ⌝ }
+{
+    let a = x.locks;
+    locks(h, a)
 }

@@ -1,85 +1,166 @@
-// A call, printed on a line with its answer. After a refusal the line says whether the cluster is as it was.
+// A call, printed with its answer. After a refusal the line says whether the whole cluster is as it was.
+use crate::line::MOST;
+use crate::line::numbers_in;
+use crate::line::says;
 use crate::print;
-use crate::state::cluster;
+use crate::same;
 use model::Cluster;
 use model::LockId;
-use model::LockState;
 use model::MachineId;
 use model::Outcome;
 use model::TaskId;
 
+// A call's answer and the cluster that it gives; of a drain, the steps.
+struct Done {
+    known: bool,
+    answer: u8,
+    drained: bool,
+    steps: u16,
+    cluster: Cluster,
+}
+
+fn of_call(o: Outcome) -> Done {
+    let a = o.answer;
+    let cluster = o.cluster;
+    Done {
+        known: true,
+        answer: a.number(),
+        drained: false,
+        steps: 0,
+        cluster,
+    }
+}
+
+fn drained(x: Cluster, l: u8) -> Done {
+    let d = engine::drain(x, LockId(l));
+    let a = d.answer;
+    let cluster = d.cluster;
+    Done {
+        known: true,
+        answer: a.number(),
+        drained: true,
+        steps: d.count,
+        cluster,
+    }
+}
+
+fn unknown(cluster: Cluster) -> Done {
+    Done {
+        known: false,
+        answer: 0,
+        drained: false,
+        steps: 0,
+        cluster,
+    }
+}
+
+fn acquire(x: Cluster, v: [u8; MOST]) -> Done {
+    of_call(engine::acquire(x, LockId(v[0]), MachineId(v[1]), TaskId(v[2]), v[3]))
+}
+
+fn release(x: Cluster, v: [u8; MOST]) -> Done {
+    of_call(engine::release(x, LockId(v[0]), MachineId(v[1]), TaskId(v[2])))
+}
+
+fn deliver(x: Cluster, v: [u8; MOST]) -> Done {
+    of_call(engine::deliver(x, LockId(v[0]), v[1]))
+}
+
+enum Kind {
+    Acquire,
+    Release,
+    Deliver,
+    Drain,
+    Unknown,
+}
+
+fn kind_named(s: &[u8], n: usize) -> Kind {
+    if says(s, n, b"acquire", 4) {
+        return Kind::Acquire;
+    }
+    if says(s, n, b"release", 3) {
+        return Kind::Release;
+    }
+    if says(s, n, b"deliver", 2) {
+        return Kind::Deliver;
+    }
+    if says(s, n, b"drain", 1) {
+        return Kind::Drain;
+    }
+    Kind::Unknown
+}
+
+fn performed(x: Cluster, k: Kind, v: [u8; MOST]) -> Done {
+    match k {
+        Kind::Acquire => acquire(x, v),
+        Kind::Release => release(x, v),
+        Kind::Deliver => deliver(x, v),
+        Kind::Drain => drained(x, v[0]),
+        Kind::Unknown => unknown(x),
+    }
+}
+
+// The call that the text says.
+fn read(x: Cluster, s: &[u8]) -> Done {
+    let n = numbers_in(s);
+    let v = n.values;
+    performed(x, kind_named(s, n.count), v)
+}
+
 fn compared(x: Cluster, y: Cluster) {
-    if digest::cluster(0, x) == digest::cluster(0, y) {
+    if same::clusters(x, y) {
         print::text(b" unchanged");
     } else {
         print::text(b" CHANGED");
     }
 }
 
-// The answer to a call on x, and the cluster that it gives.
-fn answered(x: Cluster, o: Outcome) -> Cluster {
-    let a = o.answer;
-    let y = o.cluster;
-    let n = a.number();
-    print::text(b": ");
-    print::number(n);
-    if n != 0 {
-        compared(x, y);
+fn answered(x: Cluster, d: Done) {
+    print::number(d.answer);
+    if d.drained {
+        print::text(b" steps ");
+        print::long(d.steps);
     }
-    print::text(b"\n");
-    y
-}
-
-pub fn acquire(x: Cluster, l: u8, k: u8, t: u8, m: u8) -> Cluster {
-    print::text(b"acquire ");
-    print::number(l);
-    print::text(b" ");
-    print::client(k, t);
-    print::text(b" ");
-    print::number(m);
-    let o = engine::acquire(x, LockId(l), MachineId(k), TaskId(t), m);
-    answered(x, o)
-}
-
-pub fn release(x: Cluster, l: u8, k: u8, t: u8) -> Cluster {
-    print::text(b"release ");
-    print::number(l);
-    print::text(b" ");
-    print::client(k, t);
-    let o = engine::release(x, LockId(l), MachineId(k), TaskId(t));
-    answered(x, o)
-}
-
-pub fn deliver(x: Cluster, l: u8, index: u8) -> Cluster {
-    print::text(b"deliver ");
-    print::number(l);
-    print::text(b" ");
-    print::number(index);
-    let o = engine::deliver(x, LockId(l), index);
-    answered(x, o)
-}
-
-// A drain of lock l: its answer and its steps.
-pub fn drain(x: Cluster, l: u8) -> Cluster {
-    print::text(b"drain ");
-    print::number(l);
-    let d = engine::drain(x, LockId(l));
-    let a = d.answer;
-    let y = d.cluster;
-    print::text(b": ");
-    print::number(a.number());
-    print::text(b" steps ");
-    print::long(d.count);
-    if a.number() != 0 {
-        compared(x, y);
+    if d.answer != 0 {
+        compared(x, d.cluster);
     }
-    print::text(b"\n");
-    y
 }
 
-// A delivery in two states that differ in what the heading says; the second state has it.
-pub fn compare(heading: &[u8], without: LockState, with: LockState) {
-    print::heading(heading);
-    deliver(cluster(without), 0, 0);
-    deliver(cluster(with), 0, 0);
+// The text and the answer on a line.
+pub fn called(x: Cluster, s: &[u8]) -> Cluster {
+    let d = read(x, s);
+    if d.known {
+        print::text(s);
+        print::text(b": ");
+        answered(x, d);
+        print::text(b"\n");
+    } else {
+        print::not_understood(s);
+    }
+    d.cluster
+}
+
+// The same, where the cluster that the call gives is not kept.
+pub fn tried(x: Cluster, s: &[u8]) {
+    called(x, s);
+}
+
+// The answer alone, behind a word.
+fn beside(x: Cluster, word: &[u8], s: &[u8]) {
+    let d = read(x, s);
+    if d.known {
+        print::text(word);
+        answered(x, d);
+    } else {
+        print::not_understood(s);
+    }
+}
+
+pub fn inside(x: Cluster, s: &[u8]) {
+    beside(x, b": inside ", s);
+}
+
+pub fn outside(x: Cluster, s: &[u8]) {
+    beside(x, b", outside ", s);
+    print::text(b"\n");
 }

@@ -1,29 +1,17 @@
-// The scenarios of document 01 that are executed, and each refusal provoked.
-mod build;
+// Runs the script on standard input, which makes states by hand, calls on them and prints the answers. The file stdin is the script, and says at its
+// top what a script has; the file stdout was written by hand from document 01.
+mod agents;
 mod call;
-mod cannot_place;
-mod d11;
-mod d12;
-mod d13;
-mod drains;
-mod malformed;
-mod order;
+mod line;
+mod locks;
+mod packets;
 mod print;
-mod refused;
+mod same;
+mod script;
 mod show;
-mod state;
-mod unused;
-mod wire_full;
 
 fn main() {
-    d11::run();
-    d12::run();
-    d13::run();
-    refused::run();
-    cannot_place::run();
-    wire_full::run();
-    order::run();
-    malformed::run();
-    unused::run();
-    drains::run();
+    let mut bytes = io::large_buffer();
+    let n = io::read_full(libc::STDIN_FILENO, &mut bytes);
+    script::run(&bytes[..n]);
 }

@@ -22,8 +22,13 @@ pub fn client(k: u8, t: u8) {
     number(t);
 }
 
-// A line that heads others.
-pub fn heading(s: &[u8]) {
+pub fn line(s: &[u8]) {
     text(s);
     text(b"\n");
+}
+
+// What the script says is no command: the line shows in the output, where nothing expects it.
+pub fn not_understood(s: &[u8]) {
+    text(b"NOT UNDERSTOOD: ");
+    line(s);
 }

@@ -1,0 +1,138 @@
+// The text of a command: words, and the numbers between them.
+ghost use Prim.Native.Nat.{_≤_, _<_};
+ghost use lib.ListN.{length};
+
+// As many numbers as a command has at most.
+pub const MOST: usize = 4;
+
+// What count says of a text with more numbers, or with one above 255: no command has so many.
+const TOO_MANY: usize = 9;
+
+pub struct Numbers {
+    pub values: [u8; MOST],
+    pub count: usize,
+    open: bool,
+}
+
+// The next place from i on, at most the length, whose byte is one of the two.
+fn find(s: &[u8], i: usize, a: u8, b: u8) -> usize
+    requires { ⌜ i ≤ length (now s) ⌝ }
+    ensures { λ r. ⌜ (i ≤ r) × (r ≤ length (now (s .entry))) ⌝ }
+{
+    let mut j = i;
+    while j < s.len() {
+        if s[j] == a {
+            return j;
+        }
+        if s[j] == b {
+            return j;
+        }
+        j += 1;
+    }
+    s.len()
+}
+
+// Where the command at i ends: at a semicolon or with the line, and a comment with the line.
+pub fn command_end(s: &[u8], i: usize) -> usize
+    requires { ⌜ i < length (now s) ⌝ }
+    ensures { λ r. ⌜ (i ≤ r) × (r ≤ length (now (s .entry))) ⌝ }
+{
+    if s[i] == b'#' {
+        find(s, i, b'\n', b'\n')
+    } else {
+        find(s, i, b'\n', b';')
+    }
+}
+
+// What follows the first word.
+pub fn rest(s: &[u8]) -> &[u8] {
+    let j = find(s, 0, b' ', b' ');
+    if j < s.len() { &s[j + 1..] } else { &s[j..] }
+}
+
+// The first word of the text is this one.
+pub fn starts(s: &[u8], word: &[u8]) -> bool {
+    if s.len() < word.len() {
+        return false;
+    }
+    let mut i: usize = 0;
+    while i < word.len() {
+        if s[i] != word[i] {
+            return false;
+        }
+        i += 1;
+    }
+    if s.len() == word.len() {
+        return true;
+    }
+    s[word.len()] == b' '
+}
+
+// The same, and the text has so many numbers.
+pub fn says(s: &[u8], count: usize, word: &[u8], wanted: usize) -> bool {
+    starts(s, word) && count == wanted
+}
+
+fn first_digit(mut n: Numbers, d: u8) -> Numbers {
+    let k = n.count;
+    if MOST <= k {
+        n.count = TOO_MANY;
+        return n;
+    }
+    n.values[k] = d;
+    n.count = k + 1;
+    n.open = true;
+    n
+}
+
+fn times_ten(v: u8, d: u8) -> u16 {
+    v as u16 * 10 + d as u16
+}
+
+fn next_digit(mut n: Numbers, d: u8) -> Numbers {
+    let k = n.count;
+    if k == 0 {
+        return n;
+    }
+    if MOST < k {
+        return n;
+    }
+    let v = times_ten(n.values[k - 1], d);
+    if 255 < v {
+        n.count = TOO_MANY;
+        return n;
+    }
+    n.values[k - 1] = (v % 256) as u8;
+    n
+}
+
+fn with_byte(mut n: Numbers, b: u8) -> Numbers {
+    if b < b'0' {
+        n.open = false;
+        return n;
+    }
+    if b'9' < b {
+        n.open = false;
+        return n;
+    }
+    if n.open {
+        next_digit(n, b - b'0')
+    } else {
+        first_digit(n, b - b'0')
+    }
+}
+
+// The numbers of the text, whatever stands between them.
+pub fn numbers_in(s: &[u8]) -> Numbers {
+    let mut n = Numbers {
+        values: [0; MOST],
+        count: 0,
+        open: false,
+    };
+    let mut i: usize = 0;
+    while i < s.len() {
+        n = with_byte(n, s[i]);
+        i += 1;
+    }
+    n
+}
