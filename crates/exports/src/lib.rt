@@ -1,32 +1,54 @@
-// The engine for programs in other languages: what the benchmark measures. Each function runs a transcript, or repeats a call on the cluster
-// that it leads to, and answers a number that the benchmark compares with the reference's.
+// What the benchmark in bench/ links: each function runs a transcript, or repeats a call on the cluster that it leads to, and answers a number.
+use model::Answer;
 use model::Cluster;
 use model::LockId;
 use model::Reading;
+ghost use mathlib.Core.Path.{_≡_};
+ghost use Prim.Native.Nat.{_*_, _%_, _^_};
+ghost use Rattle.model.specs.States.{fresh};
+ghost use Rattle.model.specs.Drain.{drain};
+ghost use Rattle.model.specs.Transcripts.{replay};
+ghost use Rattle.digest.specs.Bytes.{digestOf, clusterBytes};
+ghost use Rattle.exports.specs.Counts.{acceptedOne, acceptedCalls};
 
 // The digest of the cluster that the transcript leads to.
 #[no_mangle]
-pub extern "C" fn domezatsy_digest(bytes: &[u8]) -> u32 {
+pub extern "C" fn domezatsy_digest(bytes: &[u8]) -> u32
+    ensures { λ r. ⌜ r ≡ digestOf 0 (clusterBytes (replay fresh (now (bytes .entry)) .cluster)) ⌝ }
+{
     let r = transcript::run::replay(engine::fresh(), bytes);
     digest::cluster(0, r.cluster)
 }
 
-// Runs the transcript from a fresh cluster so many times: its records in all, modulo 2^32.
+// Runs the transcript from a fresh cluster so many times: its records in all.
 #[no_mangle]
-pub extern "C" fn domezatsy_replays(bytes: &[u8], times: u32) -> u32 {
-    let mut total: u32 = 0;
+pub extern "C" fn domezatsy_replays(bytes: &[u8], times: u32) -> u32
+    ensures { λ r. ⌜ r ≡ (times * replay fresh (now (bytes .entry)) .records) % 2 ^ 32 ⌝ }
+{
+    let mut records: u32 = 0;
     let mut left = times;
     while left > 0 {
         let r = transcript::run::replay(engine::fresh(), bytes);
-        total = std::num::wrapping_add_u32(total, r.records as u32);
+        records = std::num::wrapping_add_u32(records, r.records as u32);
         left -= 1;
     }
-    total
+    records
+}
+
+fn accepted_one(a: Answer) -> u32
+    ensures { λ r. ⌜ r ≡ acceptedOne a ⌝ }
+{
+    match a {
+        Answer::Accepted => 1,
+        Answer::Refused(_) => 0,
+    }
 }
 
 // Makes each record's call by the public call, which tests the whole cluster: how many were accepted.
 #[no_mangle]
-pub extern "C" fn domezatsy_calls(bytes: &[u8]) -> u32 {
+pub extern "C" fn domezatsy_calls(bytes: &[u8]) -> u32
+    ensures { λ r. ⌜ r ≡ acceptedCalls (now (bytes .entry)) % 2 ^ 32 ⌝ }
+{
     let mut x = engine::fresh();
     let mut accepted: u32 = 0;
     let mut at: usize = 0;
@@ -37,9 +59,7 @@ pub extern "C" fn domezatsy_calls(bytes: &[u8]) -> u32 {
             Reading::Record { call, next } => {
                 let o = engine::perform(call, x);
                 let a = o.answer;
-                if a.number() == 0 {
-                    accepted = std::num::wrapping_add_u32(accepted, 1);
-                }
+                accepted = std::num::wrapping_add_u32(accepted, accepted_one(a));
                 x = o.cluster;
                 at = next;
             }
@@ -55,20 +75,24 @@ pub extern "C" fn domezatsy_calls(bytes: &[u8]) -> u32 {
     accepted
 }
 
-// Drains the lock of the cluster that the transcript leads to, so many times: the steps in all, modulo 2^32.
+// Drains the lock of the cluster that the transcript leads to, so many times: the steps in all.
 #[no_mangle]
-pub extern "C" fn domezatsy_drains(bytes: &[u8], lock: u8, times: u32) -> u32 {
+pub extern "C" fn domezatsy_drains(bytes: &[u8], lock: u8, times: u32) -> u32
+    ensures { λ r. ⌜ r ≡ (times * drain (replay fresh (now (bytes .entry)) .cluster) (record { 0 = lock }) .count) % 2 ^ 32 ⌝ }
+{
     let r = transcript::run::replay(engine::fresh(), bytes);
     drains(r.cluster, lock, times)
 }
 
-fn drains(x: Cluster, lock: u8, times: u32) -> u32 {
-    let mut total: u32 = 0;
+fn drains(x: Cluster, lock: u8, times: u32) -> u32
+    ensures { λ r. ⌜ r ≡ (times * drain x (record { 0 = lock }) .count) % 2 ^ 32 ⌝ }
+{
+    let mut steps: u32 = 0;
     let mut left = times;
     while left > 0 {
         let d = engine::drain(x, LockId(lock));
-        total = std::num::wrapping_add_u32(total, d.count as u32);
+        steps = std::num::wrapping_add_u32(steps, d.count as u32);
         left -= 1;
     }
-    total
+    steps
 }

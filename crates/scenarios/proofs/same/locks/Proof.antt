@@ -5,4 +5,5 @@ use Rattle.scenarios.proofs.same.locks.Statement.{statement}
 use Rattle.scenarios.proofs.same.locks.Tie as tie
 
 pub locks-spec : {M : Type 1} → statement M
-locks-spec = tie.close (tie.spec (λ _ _ _ _ _ _. Unit) (λ _ _ _ _ _ i. locks - i) (search needs) (search needs) (search needs) (search needs) (search needs) (search needs) (search needs) (search needs) (search needs) (search needs))
+locks-spec = tie.close (tie.spec (λ _ _ _ _ _ _. Unit) (λ _ _ _ _ _ i. locks - i) (search needs) (search needs) (search needs) (search needs) (search needs)
+    (search needs) (search needs) (search needs) (search needs) (search needs))

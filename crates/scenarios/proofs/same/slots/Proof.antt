@@ -5,4 +5,5 @@ use Rattle.scenarios.proofs.same.slots.Statement.{statement}
 use Rattle.scenarios.proofs.same.slots.Tie as tie
 
 pub slots-spec : {M : Type 1} → statement M
-slots-spec = tie.close (tie.spec (λ _ _ _ _ _ _. Unit) (λ _ _ _ _ _ i. machines - i) (search needs) (search needs) (search needs) (search needs) (search needs) (search needs) (search needs) (search needs) (search needs) (search needs))
+slots-spec = tie.close (tie.spec (λ _ _ _ _ _ _. Unit) (λ _ _ _ _ _ i. machines - i) (search needs) (search needs) (search needs) (search needs)
+    (search needs) (search needs) (search needs) (search needs) (search needs) (search needs))

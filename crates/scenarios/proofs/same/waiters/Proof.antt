@@ -5,4 +5,5 @@ use Rattle.scenarios.proofs.same.waiters.Statement.{statement}
 use Rattle.scenarios.proofs.same.waiters.Tie as tie
 
 pub waiters-spec : {M : Type 1} → statement M
-waiters-spec = tie.close (tie.spec (λ _ _ _ _ _ _. Unit) (λ _ _ _ _ _ i. queueCapacity - i) (search needs) (search needs) (search needs) (search needs) (search needs) (search needs) (search needs) (search needs) (search needs) (search needs))
+waiters-spec = tie.close (tie.spec (λ _ _ _ _ _ _. Unit) (λ _ _ _ _ _ i. queueCapacity - i) (search needs) (search needs) (search needs) (search needs)
+    (search needs) (search needs) (search needs) (search needs) (search needs) (search needs))

@@ -5,4 +5,5 @@ use Rattle.scenarios.proofs.show.holders.Statement.{statement}
 use Rattle.scenarios.proofs.show.holders.Tie as tie
 
 pub holders-spec : {M : Type 1} → statement M
-holders-spec = tie.close (tie.spec (λ _ _ _. Unit) (λ _ _ c. clients - c) (search needs) (search needs) (search needs) (search needs) (search needs) (search needs) (search needs))
+holders-spec = tie.close (tie.spec (λ _ _ _. Unit) (λ _ _ c. clients - c) (search needs) (search needs) (search needs) (search needs) (search needs)
+    (search needs) (search needs))
