@@ -17,10 +17,10 @@ use Rattle.model.specs.WellFormed.{lockFormed, wellFormed}
 use Rattle.model.specs.Changes.{refused}
 use Rattle.model.specs.Refusals.{Cause, _when_, first}
 use Rattle.model.specs.Calls.{acquireStep, releaseStep, deliverStep, acquireTests, releaseTests, deliverTests, causes, refusing, settled, unless, acquire}
-use Rattle.model.specs.Calls.{release, deliver, perform}
+use Rattle.model.specs.Calls.{release, deliver, perform, lockOf}
 use Rattle.laws.specs.Lists.{getD-any}
 use Rattle.laws.specs.Formed.{all-locks, lock-formed}
-use Rattle.laws.specs.CallSteps.{lockOf, stepOf, step-refused}
+use Rattle.laws.specs.CallSteps.{stepOf, step-refused}
 use Rattle.laws.specs.Clusters.{perform-formed}
 use Rattle.rules.specs.declared.plan.Plan.{Plan}
 use Rattle.rules.specs.Plans.{carriedOut, Plans, plan-accepts, plan-refuses}

@@ -19,8 +19,7 @@ ghost use mathlib.Core.Bool.{true};
 ghost use Prim.Native.Nat.{_<_};
 ghost use Rattle.model.specs.States.{locks, fresh};
 ghost use Rattle.model.specs.WellFormed.{wellFormed};
-ghost use Rattle.model.specs.Calls.{acquire, release, deliver, perform};
-ghost use Rattle.laws.specs.CallSteps.{lockOf};
+ghost use Rattle.model.specs.Calls.{acquire, release, deliver, perform, lockOf};
 
 mod cluster;
 mod draining;

@@ -10,8 +10,8 @@ use Rattle.model.specs.declared.Call.{Call}
 use Rattle.model.specs.declared.Reading.the-variants.{Record, Bad, End}
 use Rattle.model.specs.States.{fresh}
 use Rattle.model.specs.Calls.{perform, answersOf}
-use Rattle.model.specs.Transcripts.{readRecord}
-use Rattle.exports.specs.Counts.{callsFrom, acceptedOne, countAccepted, acceptedCalls}
+use Rattle.model.specs.Transcripts.{readRecord, callsFrom}
+use Rattle.exports.specs.Counts.{acceptedOne, countAccepted, acceptedCalls}
 
 -- ---- m is added so many times
 pub record Repeats (m times total left : ℕ) : Type 0 where

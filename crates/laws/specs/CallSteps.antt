@@ -15,16 +15,11 @@ use Rattle.model.specs.WellFormed.{wellFormed}
 use Rattle.model.specs.Changes.{Verdict, cannot-place, does, finish}
 use Rattle.model.specs.Refusals.{refusalNumber, Cause, _when_, first}
 use Rattle.model.specs.Calls.{isIdle, isHolding, names, acquireStep, releaseStep, takes, deliverStep, refusing}
-use Rattle.model.specs.Calls.{settled, unless, acquire, release, deliver, perform}
+use Rattle.model.specs.Calls.{settled, unless, acquire, release, deliver, perform, lockOf}
 use Rattle.laws.specs.Tests.{and-left, and-right, pick-by}
 use Rattle.laws.specs.Formed.{all-locks}
 
--- ---- a call's lock, and its step on that lock's state
-abbrev pub lockOf : Call → LockId
-lockOf (AcquireCall l k t m) = l
-lockOf (ReleaseCall l k t) = l
-lockOf (DeliverCall l i) = l
-
+-- ---- a call's step on its lock's state
 abbrev pub stepOf : Call → LockState → Stepped
 stepOf (AcquireCall l k t m) s = acquireStep s (clientOf k t) (modeOf m)
 stepOf (ReleaseCall l k t) s = releaseStep s (clientOf k t)

@@ -10,13 +10,13 @@ use borrow.Author.Tests.{eq-eqb}
 use Rattle.laws.specs.Names.{LockId, LockState, Cluster, Call, Answer, Accepted, Refused}
 use Rattle.model.specs.States.{freshLock, fresh, lockIn, locks}
 use Rattle.model.specs.WellFormed.{lockFormed, wellFormed}
-use Rattle.model.specs.Calls.{settled, perform}
+use Rattle.model.specs.Calls.{settled, perform, lockOf}
 use Rattle.laws.specs.Tests.{and-right}
 use Rattle.laws.specs.Formed.{no-agent-formed, all-locks, lock-formed}
 use Rattle.laws.specs.Lists.{all-set, all-replicate}
 use Rattle.laws.specs.Making.{wire-formed}
 use Rattle.laws.specs.FormedStep.{acquire-formed, release-formed, deliver-formed}
-use Rattle.laws.specs.CallSteps.{lockOf, stepOf, Allowed, may-acquire, may-release, may-deliver, CallCases, denied, passed, call-cases}
+use Rattle.laws.specs.CallSteps.{stepOf, Allowed, may-acquire, may-release, may-deliver, CallCases, denied, passed, call-cases}
 use Rattle.laws.specs.CallSteps.{perform-elsewhere, perform-here}
 
 pub fresh-lock-formed : lockFormed freshLock ≡ true

@@ -10,3 +10,4 @@ pub mod FormedStep
 pub mod CallSteps
 pub mod Clusters
 pub mod Next
+pub mod Records

@@ -10,11 +10,11 @@ use Rattle.laws.specs.Names.{LockId, MachineId, TaskId, Mode, Packet, Ho
 use Rattle.model.specs.States.{clientOf, statusOf, idle, packets, lockIn, locks, machines, tasks, clients}
 use Rattle.model.specs.WellFormed.{wellFormed}
 use Rattle.model.specs.Refusals.{first}
-use Rattle.model.specs.Calls.{isHolding, unless, release, deliver, perform}
+use Rattle.model.specs.Calls.{isHolding, unless, release, deliver, perform, lockOf}
 use Rattle.model.specs.Drain.{none, some, releaseFirst, nextOf, nextCall}
 use Rattle.laws.specs.Tests.{bool-cases, pick-by}
 use Rattle.laws.specs.Formed.{parts, lock-formed}
-use Rattle.laws.specs.CallSteps.{lockOf, outcomeOf, Allowed, may-release, may-deliver, holds}
+use Rattle.laws.specs.CallSteps.{outcomeOf, Allowed, may-release, may-deliver, holds}
 
 -- what the drain does next to a lock's state
 pub data NextIs (l : LockId) (s : LockState) : Call → Type 0 where

@@ -119,11 +119,16 @@ release x l k t = unless (first (causes x l (releaseTests (lockIn x l) k t))) x 
 unfoldable pub deliver : Cluster → LockId → ℕ → Outcome
 deliver x l i = unless (first (causes x l (deliverTests (lockIn x l) i))) x l (deliverStep (lockIn x l) i)
 
--- A call as data.
+-- A call as data, and the lock that it is about.
 unfoldable pub perform : Call → Cluster → Outcome
 perform (AcquireCall l k t m) x = acquire x l k t m
 perform (ReleaseCall l k t) x = release x l k t
 perform (DeliverCall l i) x = deliver x l i
+
+abbrev pub lockOf : Call → LockId
+lockOf (AcquireCall l k t m) = l
+lockOf (ReleaseCall l k t) = l
+lockOf (DeliverCall l i) = l
 
 -- Calls one after another, each on the cluster that the one before left.
 unfoldable pub run : List Call → Cluster → Cluster

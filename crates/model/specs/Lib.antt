@@ -21,3 +21,4 @@ pub mod Drain
 pub mod Trace
 -- "Transcripts and the desk program"
 pub mod Transcripts
+pub mod Listing

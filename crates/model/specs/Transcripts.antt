@@ -8,7 +8,7 @@ use Rattle.model.specs.Lists.{pick}
 use Rattle.model.specs.Names.{Cluster, Call, AcquireCall, ReleaseCall, DeliverCall, Malformed, BadRecord, TranscriptLength, Answer, Accepted, Refused}
 use Rattle.model.specs.Names.{Reading, Record, Bad, End, Replayed}
 use Rattle.model.specs.WellFormed.{wellFormed}
-use Rattle.model.specs.Refusals.{_when_, first}
+use Rattle.model.specs.Refusals.{Cause, _when_, first}
 use Rattle.model.specs.Calls.{perform}
 
 -- a number in two bytes, the low one first
@@ -71,5 +71,16 @@ replayUnless (Refused r) x bytes = replayed (Refused r) 0 x
 replayUnless Accepted x bytes = replayFrom (length bytes + 1) bytes 0 0 x
 
 -- Two tests come before any record.
+abbrev pub replayTests : Cluster → List ℕ → List Cause
+replayTests x bytes = (Malformed when not (wellFormed x)) ∷ (TranscriptLength when ltb 65535 (length bytes)) ∷ []
+
 unfoldable pub replay : Cluster → List ℕ → Replayed
-replay x bytes = replayUnless (first ((Malformed when not (wellFormed x)) ∷ (TranscriptLength when ltb 65535 (length bytes)) ∷ [])) x bytes
+replay x bytes = replayUnless (first (replayTests x bytes)) x bytes
+
+-- The calls of the records from position i on, until a bad one or the end; of a whole transcript, in which each takes some of the bytes.
+unfoldable pub callsFrom : ℕ → List ℕ → ℕ → List Call
+callsFrom zero bytes i = []
+callsFrom (suc left) bytes i = elim (readRecord bytes i) [ Record c j ↦ c ∷ callsFrom left bytes j | Bad ↦ [] | End ↦ [] ]
+
+abbrev pub callsOf : List ℕ → List Call
+callsOf bytes = callsFrom (length bytes) bytes 0

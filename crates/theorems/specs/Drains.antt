@@ -2,14 +2,15 @@
 use Rattle.model.specs.Drain.{allowance, Next, none, some, nextCall, Quiescent, Drainage, ending, after-one, drainage, drainCalls, drainEnded, drainUnless}
 use Rattle.model.specs.Drain.{drain}
 use Rattle.model.specs.Refusals.{first}
-use Rattle.laws.specs.CallSteps.{lockOf, stepOf, perform-elsewhere, perform-here}
+use Rattle.laws.specs.CallSteps.{stepOf, perform-elsewhere, perform-here}
 use Rattle.laws.specs.Next.{NextIs, delivers-first, releases-holder, next-is, rests, Goes, goes}
 use Rattle.laws.specs.Formed.{lock-formed}
 use Rattle.theorems.specs.Names.{LockId, MachineId, TaskId, ClientId, Mode, Exclusive, Shared, Address, ToDecider, ToMachine, Message, Free, Acquire}
 use Rattle.theorems.specs.Names.{Grant, Release, Packet, Status, Idle, Waiting, Holding, LockState, Cluster, Call, ReleaseCall, DeliverCall, Accepted}
 use Rattle.theorems.specs.Names.{Outcome, _≡_, refl, sym, ap, _∙_, Bool, true, false, _&&_, not, false≢true, List, [], _∷_, ℕ, zero, suc, _+_, _≤_, _<_}
 use Rattle.theorems.specs.Names.{arith, length, eqb, eqb-true, eq-eqb, lt-leb, pick, all, removed, clientOf, statusOf, lockIn, packets, freshLock}
-use Rattle.theorems.specs.Names.{wellFormed, isHolding, packetAt, after, answersOf, deliverStep, settled, perform, run, View, isAccepted, toMachine}
+use Rattle.theorems.specs.Names.{wellFormed, isHolding, packetAt, after, answersOf, deliverStep, settled, perform, lockOf, run, View, isAccepted}
+use Rattle.theorems.specs.Names.{toMachine}
 use Rattle.theorems.specs.Names.{isGrantFor, showsGrant, afterGrant, afterRelease, sees, watch, and-left, locks, fresh, inParts}
 use Rattle.theorems.specs.Weights.{statusAt, waitF, holdF, few}
 use Rattle.theorems.specs.Invariant.{Inv}

@@ -28,6 +28,7 @@ pub mod Runs
 pub mod Traced
 pub mod Statements
 pub mod Theorems
+pub mod Listings
 -- ---- the drain: its bound, and how it ends
 pub mod Work
 pub mod Distance

@@ -41,7 +41,7 @@ unfoldable pub use Rattle.model.specs.AtDecider.{mayShare, toOwner, decidesAcqu
 pub use Rattle.model.specs.AtMachine.{sendsBack, grantOf, installed, requeued}
 unfoldable pub use Rattle.model.specs.AtMachine.{admitted, staying, joined, installs, grantArrives, rejectedGrantArrives, marked, unmarked, acquireArrives}
 unfoldable pub use Rattle.model.specs.AtMachine.{releaseArrives, freeArrives, arrives, atMachine}
-pub use Rattle.model.specs.Calls.{refusing, isHolding, messageNames, names, machineAt, clientNamed, packetAt, answersOf, after}
+pub use Rattle.model.specs.Calls.{refusing, isHolding, messageNames, names, machineAt, clientNamed, packetAt, answersOf, after, lockOf}
 unfoldable pub use Rattle.model.specs.Calls.{delivers, acquireStep, releaseStep, takes, deliverStep, settled, unless, acquire, release, deliver, perform, run}
 pub use Rattle.model.specs.Refusals.{refusalNumber, number}
 pub use Rattle.model.specs.Trace.{View, unseen, isAccepted, toMachine, isGrantFor, showsGrant, afterAcquire}

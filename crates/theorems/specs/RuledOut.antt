@@ -12,9 +12,9 @@ use lib.Dec.{leb}
 use Rattle.model.specs.States.{noAgent, wireOf, lockIn, freshLock}
 use Rattle.model.specs.WellFormed.{wellFormed}
 use Rattle.model.specs.Refusals.{_when_, first}
-use Rattle.model.specs.Calls.{perform, run}
+use Rattle.model.specs.Calls.{perform, lockOf, run}
 use Rattle.model.specs.Drain.{allowance, Next, none, some, nextCall, Quiescent, Drainage, drainage, drainCalls, drainRefused, drainEnded, drainUnless, drain}
-use Rattle.laws.specs.CallSteps.{lockOf, perform-elsewhere}
+use Rattle.laws.specs.CallSteps.{perform-elsewhere}
 use Rattle.laws.specs.Next.{NextIs, delivers-first, releases-holder, next-is}
 use Rattle.theorems.specs.Scenarios.{D1, D1-drained, D4, D10, scenarios-hold, machine, on, acquires0, delivers0, lock8, with0, d1, d3-rejected, d4}
 

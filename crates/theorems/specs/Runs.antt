@@ -1,9 +1,9 @@
 -- Calls and lists of calls: each keeps the invariant of every lock, and no call is refused with 9 to 14.
-use Rattle.laws.specs.CallSteps.{lockOf, stepOf, Allowed, may-acquire, may-release, may-deliver, CallCases, denied, passed, call-cases, perform-here}
+use Rattle.laws.specs.CallSteps.{stepOf, Allowed, may-acquire, may-release, may-deliver, CallCases, denied, passed, call-cases, perform-here}
 use Rattle.laws.specs.Clusters.{fresh-formed, perform-formed, perform-keeps}
 use Rattle.theorems.specs.Names.{LockId, LockState, Cluster, Call, Refusal, Accepted, Outcome, _≡_, refl, ap, _∙_, true, List, [], _∷_, ℕ, zero, suc, _≤_}
 use Rattle.theorems.specs.Names.{arith, getD, replicate, clientOf, modeOf, lockIn, freshLock, fresh, lockFormed, wellFormed, refusing, after, settled}
-use Rattle.theorems.specs.Names.{perform, run, refusalNumber, number, locks}
+use Rattle.theorems.specs.Names.{perform, lockOf, run, refusalNumber, number, locks}
 use Rattle.theorems.specs.Invariant.{Inv}
 use Rattle.theorems.specs.Fresh.{inv-fresh}
 use Rattle.theorems.specs.Steps.{Sound, sound-acquire, sound-release, sound-deliver}

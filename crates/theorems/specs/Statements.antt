@@ -1,11 +1,13 @@
 -- What is proved, in Theorems and Drains: of the numbers of answers, and of every list of calls on a fresh cluster. Past the last, a lock reads as fresh
 -- and a client as idle.
-use Rattle.laws.specs.CallSteps.{lockOf}
 use Rattle.model.specs.Drain.{allowance, Quiescent, drainCalls, drain}
 use Rattle.model.specs.Trace.{isAccepted, grantsIn}
-use Rattle.theorems.specs.Names.{LockId, ClientId, Mode, Exclusive, Status, Waiting, Holding, Cluster, Call, Answer, Accepted, _≡_, true, List, ℕ, _≤_}
-use Rattle.theorems.specs.Names.{_<_, length, eqb, leb, all, statusOf, lockIn, packets, freshLock, fresh, wellFormed, current, packetAt, run, answersOf}
-use Rattle.theorems.specs.Names.{after, perform, number, phaseAfter, _+_, _-_, _*_, locks, clients, wireCapacity}
+use Rattle.model.specs.Refusals.{first}
+use Rattle.model.specs.Transcripts.{replayTests, replayed, replay, callsOf}
+use Rattle.model.specs.Listing.{Row, rowOf, header, lineOf, refusedLine, listing}
+use Rattle.theorems.specs.Names.{LockId, ClientId, Mode, Exclusive, Status, Waiting, Holding, Cluster, Call, Refusal, Answer, Accepted, Refused, _≡_}
+use Rattle.theorems.specs.Names.{true, List, [], _∷_, ℕ, _≤_, _<_, length, eqb, leb, all, statusOf, lockIn, packets, freshLock, fresh, wellFormed, current}
+use Rattle.theorems.specs.Names.{packetAt, run, answersOf, after, perform, lockOf, number, phaseAfter, _+_, _-_, _*_, locks, clients, wireCapacity, _++_, map}
 use Rattle.theorems.specs.Tally.{tally}
 use Rattle.theorems.specs.Weights.{markP}
 
@@ -70,6 +72,45 @@ pub record Demand3 (cs : List Call) : Type 0 where
   pub trace : TraceAgrees cs
   pub exclusion : ExclusionOfTrace cs
   pub drains : (l : LockId) → l .0 < locks → Drains (after cs) l (λ c. phaseAfter l c cs)
+
+-- The rows of a list of calls on x, in their order: what each call is answered, and the packets then on its lock's wire.
+abbrev pub rowsOf : List Call → Cluster → List Row
+rowsOf [] x = []
+rowsOf (c ∷ cs) x = rowOf c x ∷ rowsOf cs (perform c x .cluster)
+
+-- Their lines, with the numbers that follow n.
+abbrev pub linesOf : ℕ → List Row → List ℕ
+linesOf n [] = []
+linesOf n (r ∷ rs) = lineOf (n + 1) r ++ linesOf (n + 1) rs
+
+-- The line behind them, and how many records it stands for: one for a bad record, none where the transcript ends.
+abbrev pub lastLine : Answer → ℕ → List ℕ
+lastLine Accepted n = []
+lastLine (Refused r) n = refusedLine n r
+
+abbrev pub lastRecords : Answer → ℕ
+lastRecords Accepted = 0
+lastRecords (Refused r) = 1
+
+-- A transcript that passes the two tests: its run makes the calls of its records, each once and in order. The listing has a line for each of them, with
+-- that call's outcome, and one more for a bad record: as many lines as the run counts records.
+pub record Listed (x : Cluster) (bytes : List ℕ) : Type 0 where
+  pub runs : replay x bytes .cluster ≡ run (callsOf bytes) x
+  pub counts : replay x bytes .records ≡ length (callsOf bytes) + lastRecords (replay x bytes .answer)
+  pub lines : listing x bytes ≡ header ++ (linesOf 0 (rowsOf (callsOf bytes) x) ++ lastLine (replay x bytes .answer) (replay x bytes .records))
+  pub rows : length (rowsOf (callsOf bytes) x) ≡ length (callsOf bytes)
+  pub answers : map (λ (r : Row). r .answer) (rowsOf (callsOf bytes) x) ≡ answersOf (callsOf bytes) x
+
+-- The bytes of a listing at most: the header's 19, 24 for a line, and a record has six bytes.
+abbrev pub longestListing : ℕ
+longestListing = 19 + (4 * 65535 + 24)
+
+-- One that does not has a line with the number 0 and its refusal's. No listing is longer than the buffer of the program.
+pub record ListsAll (x : Cluster) (bytes : List ℕ) : Type 0 where
+  pub tested : first (replayTests x bytes) ≡ Accepted → Listed x bytes
+  pub refused : (r : Refusal) → first (replayTests x bytes) ≡ Refused r
+      → (replay x bytes ≡ replayed (Refused r) 0 x) × (listing x bytes ≡ header ++ refusedLine 0 r)
+  pub short : length (listing x bytes) ≤ longestListing
 
 -- Eight bits do for an incarnation: a wire never has as many as 256 marks, so a carried agent's is the decider's exactly where it has none.
 pub record IncarnationSound (cs : List Call) : Type 0 where

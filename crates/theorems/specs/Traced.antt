@@ -1,5 +1,5 @@
 -- The statuses are what the trace says: which client's status each step writes, and as what.
-use Rattle.laws.specs.CallSteps.{lockOf, stepOf, Allowed, may-acquire, may-release, may-deliver, perform-elsewhere}
+use Rattle.laws.specs.CallSteps.{stepOf, Allowed, may-acquire, may-release, may-deliver, perform-elsewhere}
 use Rattle.theorems.specs.Names.{LockId, MachineId, ClientId, Mode, Owner, Unowned, Owned, Agent, AgentSlot, Address, ToDecider, ToMachine, Message, Free}
 use Rattle.theorems.specs.Names.{Acquire, Grant, Release, Packet, Status, Idle, Waiting, Holding, ClientState, LockState, Cluster, Call, AcquireCall}
 use Rattle.theorems.specs.Names.{ReleaseCall, DeliverCall, WireFull, _≡_, refl, sym, ap, _∙_, Bool, true, false, _&&_, not, and-false, List, [], _∷_, ℕ}
@@ -9,7 +9,7 @@ use Rattle.theorems.specs.Names.{cannot-place, does, Site, siteOf, withS
 use Rattle.theorems.specs.Names.{joining, queuing, noRoom, mayJoin, lists, clientAsks, clientAcquires, clientReleases, current, toOwner, decidesAcquire}
 use Rattle.theorems.specs.Names.{decidesFree, decidesGrant, decides, atDecider, installs, grantArrives, rejectedGrantArrives, marked, unmarked}
 use Rattle.theorems.specs.Names.{acquireArrives, releaseArrives, freeArrives, arrives, atMachine, names, machineAt, clientNamed, packetAt, delivers}
-use Rattle.theorems.specs.Names.{acquireStep, releaseStep, takes, deliverStep, perform, run, View, isAccepted, toMachine, isGrantFor, showsGrant}
+use Rattle.theorems.specs.Names.{acquireStep, releaseStep, takes, deliverStep, perform, lockOf, run, View, isAccepted, toMachine, isGrantFor, showsGrant}
 use Rattle.theorems.specs.Names.{afterAcquire, afterGrant, sees, watch, bool-cases, clients, wireCapacity, inParts, mayShare}
 use Rattle.model.specs.Changes.{refused}
 use Rattle.theorems.specs.Tally.{tally}

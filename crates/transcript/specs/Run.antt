@@ -1,155 +1,159 @@
--- The run of a transcript, record by record: where a record ends, and what is left of the run behind it.
-use mathlib.Core.Path.{_≡_, refl, sym, ap, subst, _∙_}
-use mathlib.Core.Bool.{Bool, true, false, _&&_}
-use mathlib.Core.List.{List}
+-- The run of a transcript, record by record: what a record's call makes, and what is left of the run and its listing behind it.
+use mathlib.Core.Path.{_≡_, refl, sym, ap, _∙_}
+use mathlib.Core.Bool.{true, false}
+use mathlib.Core.List.{List, [], _++_}
 use Prim.Native.Nat.{ℕ, suc, _+_, _-_, _*_, _<_, _≤_}
 use native.Mathlib.Omega.{arith}
-use lib.ListN.{length, getD, set}
-use lib.Seq.{set-getD}
-use lib.Dec.{eqb, leb, ltb}
-use borrow.Author.Tests.{leb-true, leb-false, lt-ltb, le-ltb}
+use lib.ListN.{length, getD, set, List·getD-eq-default}
+use lib.Seq.{getD-set-same}
+use borrow.Author.Tests.{lt-ltb, le-ltb}
 use Rattle.model.specs.declared.LockId.{LockId}
 use Rattle.model.specs.declared.LockState.{LockState}
 use Rattle.model.specs.declared.Cluster.{Cluster}
 use Rattle.model.specs.declared.Call.{Call}
 use Rattle.model.specs.declared.Refusal.{Refusal}
-use Rattle.model.specs.declared.Refusal.the-variants.{Malformed, BadRecord, TranscriptLength}
+use Rattle.model.specs.declared.Refusal.the-variants.{Malformed, LockRange, BadRecord, TranscriptLength}
+use Rattle.model.specs.declared.Answer.{Answer}
 use Rattle.model.specs.declared.Answer.the-variants.{Accepted, Refused}
-use Rattle.model.specs.declared.Stepped.{Stepped}
 use Rattle.model.specs.declared.Outcome.{Outcome}
-use Rattle.model.specs.declared.Reading.{Reading}
 use Rattle.model.specs.declared.Reading.the-variants.{Record, Bad, End}
-use Rattle.model.specs.Lists.{pick}
-use Rattle.model.specs.States.{locks}
+use Rattle.model.specs.declared.Replayed.{Replayed}
+use Rattle.model.specs.States.{locks, packets, wireOf, freshLock, lockIn}
 use Rattle.model.specs.WellFormed.{lockFormed, wellFormed}
 use Rattle.model.specs.Refusals.{first}
-use Rattle.model.specs.Changes.{refused}
-use Rattle.model.specs.Calls.{perform}
-use Rattle.model.specs.Transcripts.{short, acquireAt, releaseAt, deliverAt, wholeRecord, readRecord, replayed, replayFrom, replayUnless, replay}
-use Rattle.laws.specs.Tests.{and-right}
-use Rattle.laws.specs.CallSteps.{lockOf}
+use Rattle.model.specs.Calls.{perform, lockOf}
+use Rattle.model.specs.Transcripts.{readRecord, replayed, replayFrom, replayUnless, replayTests, replay}
+use Rattle.model.specs.Listing.{kindOf, rowOf, header, lineOf, refusedLine, linesFrom, linesUnless, listing, Filled, put}
+use Rattle.laws.specs.Records.{record-ends, at-record, at-bad, at-end}
+use Rattle.laws.specs.Shapes.{length-packets}
+use Rattle.laws.specs.Formed.{all-locks, lock-formed, ready}
 use Rattle.laws.specs.Clusters.{perform-formed}
-use Rattle.engine.specs.LockCalls.{callOn, lock-read, read-formed, perform-range, writtenBy, perform-written, written-formed}
+use Rattle.rules.specs.declared.plan.Plan.{Plan}
+use Rattle.rules.specs.Plans.{Plans, carriedOut}
+use Rattle.engine.specs.LockCalls.{callOn, lock-read, read-formed, perform-range, perform-accepts, perform-refuses}
+use Rattle.listing.specs.Put.{put-then}
 
--- ---- a record has at least six bytes, and ends within the transcript
-data Ends (bytes : List ℕ) (i : ℕ) : Reading → Type 0 where
-  inside : {c : Call} {j : ℕ} → i + 6 ≤ j → j ≤ length bytes → Ends bytes i (Record c j)
-  bad : Ends bytes i Bad
-  end : Ends bytes i End
+-- ---- What a record's call c makes of the cluster y: its answer a, the cluster z, and w packets on its lock's wire.
+pub record Made (c : Call) (y : Cluster) (a : Answer) (w : ℕ) (z : Cluster) : Type 0 where
+  pub row : record { kind = kindOf c; answer = a; wire = w } ≡ rowOf c y
+  pub cluster : z ≡ perform c y .cluster
 
-ends-if : {bytes : List ℕ} {i : ℕ} (b : Bool) {r t : Reading} → (b ≡ true → Ends bytes i r) → (b ≡ false → Ends bytes i t)
-    → Ends bytes i (pick b r t)
-ends-if true f g = f refl
-ends-if false f g = g refl
+module _ (c : Call) (y : Cluster) where
+  made-by : {a : Answer} {w : ℕ} {z : Cluster} → record { answer = a; cluster = z } ≡ perform c y → length (packets (lockIn z (lockOf c) .wire)) ≡ w
+      → Made c y a w z
+  made-by e q = record { row = rw (← e, q); cluster = ap (λ (o : Outcome). o .cluster) e }
 
-whole-ends : (n : ℕ) (bytes : List ℕ) (i : ℕ) (c : Call) → 6 ≤ n → i ≤ length bytes → Ends bytes i (wholeRecord n bytes i c)
-whole-ends n bytes i c h k =
-    ends-if (eqb (short bytes i) n && leb n (length bytes - i))
-    (λ e. let m : n ≤ length bytes - i = leb-true n _ (and-right (eqb (short bytes i) n) _ e) in inside (omega arith) (omega arith)) (λ e. bad)
+  -- there is no such lock, so no wire
+  pub made-range : (l : LockId) → wellFormed y ≡ true → l ≡ lockOf c → locks ≤ l .0 → Made c y (Refused LockRange) 0 y
+  unfolding freshLock packets wireOf
+  made-range l e q h =
+      let k : locks ≤ lockOf c .0 = rw (← q) h in
+      made-by (sym (perform-range c y e k)) (rw (List·getD-eq-default (y .locks) freshLock {n = lockOf c .0} (omega (arith, all-locks y e))))
 
-reading-ends : (bytes : List ℕ) (i : ℕ) → Ends bytes i (readRecord bytes i)
-unfolding readRecord
-reading-ends bytes i =
-    ends-if (leb (length bytes) i) (λ e. end) (λ e.
-    let h : i ≤ length bytes = omega (arith, leb-false (length bytes) i e) in
-    ends-if (ltb (length bytes - i) 4) (λ e. bad) (λ e.
-    ends-if (eqb (short bytes (i + 2)) 1) (λ e. whole-ends 8 bytes i (acquireAt bytes i) (omega arith) h) (λ e.
-    ends-if (eqb (short bytes (i + 2)) 2) (λ e. whole-ends 7 bytes i (releaseAt bytes i) (omega arith) h) (λ e.
-    ends-if (eqb (short bytes (i + 2)) 3) (λ e. whole-ends 6 bytes i (deliverAt bytes i) (omega arith) h) (λ e. bad)))))
+  -- the call by its plan on the state of its lock l, read with any default
+  module _ (l : LockId) (d : LockState) (f : (wellFormed y ≡ true) × ((l .0 < locks) × (l ≡ lockOf c))) {p : Plan}
+      (g : Plans p (getD (y .locks) (l .0) d) (callOn c (getD (y .locks) (l .0) d))) where
+    counted : (z : Cluster) (s : LockState) → wellFormed z ≡ true → lockIn z l ≡ s → length (packets (lockIn z (lockOf c) .wire)) ≡ s .wire .len
+    counted z s w e = rw (← f .1 .1, ← e) (length-packets (lockIn z l .wire) (ready (lockIn z l) (lock-formed z l w (f .1 .0)) .wire))
 
-pub record-ends : (bytes : List ℕ) (i : ℕ) (c : Call) (j : ℕ) → readRecord bytes i ≡ Record c j → (i + 6 ≤ j) × (j ≤ length bytes)
-record-ends bytes i c j e = go (rw e at (reading-ends bytes i))
-  where
-    go : Ends bytes i (Record c j) → (i + 6 ≤ j) × (j ≤ length bytes)
-    go (inside h k) = (h, k)
+    -- the state after the step, and the cluster with it
+    abbrev pub stepped : LockState
+    stepped = carriedOut p (getD (y .locks) (l .0) d)
 
--- ---- a call on its lock's state, written back in its place
-abbrev placed : Cluster → LockId → Stepped → Cluster
-placed y l o = record { locks = set (y .locks) (l .0) (o .state) }
+    abbrev pub written : Cluster
+    written = record { locks = set (y .locks) (l .0) stepped }
 
-module _ (c : Call) (y : Cluster) (l : LockId) (d : LockState) (o : Stepped) (w : wellFormed y ≡ true) (e : l ≡ lockOf c) (h : l .0 < locks)
-    (q : o ≡ callOn c (getD (y .locks) (l .0) d)) where
-  in-place : placed y l o ≡ writtenBy c y
-  in-place = rw (q, lock-read y l d w h, e)
+    pub made-accepted : p .answer ≡ Accepted → Made c y (p .answer) (stepped .wire .len) written
+    made-accepted a =
+        let e = perform-accepts c y l d f g a in
+        let w : wellFormed written ≡ true = rw (ap (λ (o : Outcome). o .cluster) e) (perform-formed c y (f .0)) in
+        made-by e (counted written stepped w (getD-set-same (y .locks) (l .0) stepped freshLock (omega (arith, all-locks y (f .0), f .1 .0))))
 
-  pub place-formed : wellFormed (placed y l o) ≡ true
-  place-formed = rw in-place (written-formed c y w (rw e at h))
+    pub made-refused : (n : Refusal) → p .answer ≡ Refused n → Made c y (p .answer) (getD (y .locks) (l .0) d .wire .len) y
+    made-refused n a = made-by (perform-refuses c y l d f g n a) (counted y _ (f .0) (sym (lock-read y l d (f .0) (f .1 .0))))
 
--- ---- one record of the run
-module _ (left : ℕ) (bytes : List ℕ) (i n : ℕ) (x : Cluster) where
-  from-record : (c : Call) (j : ℕ) → readRecord bytes i ≡ Record c j
-      → replayFrom (suc left) bytes i n x ≡ replayFrom left bytes j (n + 1) (perform c x .cluster)
-  unfolding replayFrom
-  from-record c j e = rw (e, replayFrom)
+-- ---- the run from the start, and its lines
+abbrev pub wholeRun : List ℕ → Cluster → Replayed
+wholeRun bytes x = replayFrom (length bytes + 1) bytes 0 0 x
 
-  from-bad : readRecord bytes i ≡ Bad → replayFrom (suc left) bytes i n x ≡ replayed (Refused BadRecord) (n + 1) x
-  unfolding replayFrom
-  from-bad e = rw (e, replayFrom)
+abbrev pub allLines : List ℕ → Cluster → List ℕ
+allLines bytes x = linesFrom (length bytes + 1) bytes 0 0 x
 
-  from-end : readRecord bytes i ≡ End → replayFrom (suc left) bytes i n x ≡ replayed Accepted n x
-  unfolding replayFrom
-  from-end e = let z : n + 0 ≡ n = omega arith in rw (e, replayFrom, z)
-
--- ---- At the position i with n records behind it the cluster is y, and the rest of the run from there is the whole run.
-pub record Progress (bytes : List ℕ) (x : Cluster) (i n : ℕ) (y : Cluster) : Type 0 where
-  pub left : replayFrom (suc (length bytes - n)) bytes i n y ≡ replayFrom (length bytes + 1) bytes 0 0 x
+-- ---- At the position i with n records behind it the cluster is y and the buffer g, which began as f. The rest of the run from there is the whole run, and
+-- the rest of the lines, put into g, are all of them put into f.
+pub record Progress (bytes : List ℕ) (x : Cluster) (f : Filled) (i n : ℕ) (y : Cluster) (g : Filled) : Type 0 where
+  pub left : replayFrom (suc (length bytes - n)) bytes i n y ≡ wholeRun bytes x
+  pub lines : put (linesFrom (suc (length bytes - n)) bytes i n y) g ≡ put (allLines bytes x) f
   pub formed : wellFormed y ≡ true
   pub behind : 6 * n ≤ i
   pub inside : i ≤ length bytes
 
-pub progress-start : (bytes : List ℕ) (x : Cluster) → wellFormed x ≡ true → Progress bytes x 0 0 x
-progress-start bytes x w =
+pub progress-start : (bytes : List ℕ) (x : Cluster) (f : Filled) → wellFormed x ≡ true → Progress bytes x f 0 0 x f
+progress-start bytes x f w =
     let e : suc (length bytes - 0) ≡ length bytes + 1 = omega arith in
-    record { left = rw e; formed = w; behind = omega arith; inside = omega arith }
+    record { left = rw e; lines = rw e; formed = w; behind = omega arith; inside = omega arith }
 
-module _ {bytes : List ℕ} {x : Cluster} {i n : ℕ} {y : Cluster} (p : Progress bytes x i n y) where
+module _ {bytes : List ℕ} {x : Cluster} {f : Filled} {i n : ℕ} {y : Cluster} {g : Filled} (p : Progress bytes x f i n y g) where
   -- the state that a call is planned on, read from the cluster with any default
   pub progress-lock : (l : LockId) (d : LockState) → l .0 < locks → lockFormed (getD (y .locks) (l .0) d) ≡ true
   progress-lock l d h = read-formed y l d (p .formed) h
 
-  pub progress-on : (c : Call) (j : ℕ) → readRecord bytes i ≡ Record c j → Progress bytes x j (n + 1) (perform c y .cluster)
-  progress-on c j e =
-      let h = record-ends bytes i c j e in
-      let f : suc (length bytes - (n + 1)) ≡ length bytes - n = omega (arith, p .behind, h) in
+  pub progress-on : (c : Call) (j : ℕ) (a : Answer) (w : ℕ) {z : Cluster} {h : Filled} → readRecord bytes i ≡ Record c j → Made c y a w z
+      → h ≡ put (lineOf (n + 1) (record { kind = kindOf c; answer = a; wire = w })) g → Progress bytes x f j (n + 1) z h
+  progress-on c j a w {z} {h} e m q =
+      let b = record-ends bytes i c j e in
+      let r : suc (length bytes - (n + 1)) ≡ length bytes - n = omega (arith, p .behind, b) in
+      let q′ : h ≡ put (lineOf (n + 1) (rowOf c y)) g = rw (m .row) at q in
+      let s = at-record (length bytes - n) bytes i n y c j e in
       record {
-        left = rw f (sym (from-record _ bytes i n y c j e) ∙ p .left);
-        formed = perform-formed c y (p .formed);
-        behind = omega (arith, p .behind, h);
-        inside = h .1;
+        left = rw (r, m .cluster) (sym (s .run) ∙ p .left);
+        lines = rw (r, m .cluster) (put-then _ _ g q′ refl ∙ (rw (s .lines) at (p .lines)));
+        formed = rw (m .cluster) (perform-formed c y (p .formed));
+        behind = omega (arith, p .behind, b);
+        inside = b .1;
       }
 
-  pub progress-step : (c : Call) (j : ℕ) (l : LockId) (d : LockState) (o : Stepped) → readRecord bytes i ≡ Record c j → l ≡ lockOf c → l .0 < locks
-      → o ≡ callOn c (getD (y .locks) (l .0) d) → Progress bytes x j (n + 1) (placed y l o)
-  progress-step c j l d o e q h f =
-      let w = p .formed in
-      rw (in-place c y l d o w q h f, ← perform-written c y w (rw q at h)) (progress-on c j e)
+  pub progress-bad : {h : Filled} → readRecord bytes i ≡ Bad → h ≡ put (refusedLine (n + 1) BadRecord) g
+      → (replayed (Refused BadRecord) (n + 1) y ≡ wholeRun bytes x) × (h ≡ put (allLines bytes x) f)
+  progress-bad e q =
+      let s = at-bad (length bytes - n) bytes i n y e in
+      (sym (s .run) ∙ p .left, q ∙ (rw (s .lines) at (p .lines)))
 
-  pub progress-refused : (c : Call) (j : ℕ) (l : LockId) (d : LockState) (r : Refusal) → readRecord bytes i ≡ Record c j → l ≡ lockOf c → l .0 < locks
-      → refused r (getD (y .locks) (l .0) d) ≡ callOn c (getD (y .locks) (l .0) d) → Progress bytes x j (n + 1) y
-  progress-refused c j l d r e q h f =
-      subst (λ (ls : List LockState). Progress bytes x j (n + 1) (record { locks = ls })) (set-getD (y .locks) (l .0) d) (progress-step c j l d _ e q h f)
+  pub progress-end : readRecord bytes i ≡ End → (replayed Accepted n y ≡ wholeRun bytes x) × (g ≡ put (allLines bytes x) f)
+  unfolding put
+  progress-end e =
+      let s = at-end (length bytes - n) bytes i n y e in
+      (sym (s .run) ∙ p .left, rw (s .lines) at (p .lines))
 
-  pub progress-skip : (c : Call) (j : ℕ) (l : LockId) → readRecord bytes i ≡ Record c j → l ≡ lockOf c → locks ≤ l .0 → Progress bytes x j (n + 1) y
-  progress-skip c j l e q h =
-      let f = ap (λ (r : Outcome). r .cluster) (perform-range c y (p .formed) (rw q at h)) in
-      subst (λ (z : Cluster). Progress bytes x j (n + 1) z) f (progress-on c j e)
+-- ---- 11, then 13, before any record is run: the run and its listing by the answer a of the two tests
+pub record Begins (x : Cluster) (bytes : List ℕ) (a : Answer) : Type 0 where
+  pub outcome : replay x bytes ≡ replayUnless a x bytes
+  pub lines : listing x bytes ≡ header ++ linesUnless a x bytes
 
-  pub progress-bad : readRecord bytes i ≡ Bad → replayed (Refused BadRecord) (n + 1) y ≡ replayFrom (length bytes + 1) bytes 0 0 x
-  progress-bad e = sym (from-bad _ bytes i n y e) ∙ p .left
-
-  pub progress-end : readRecord bytes i ≡ End → replayed Accepted n y ≡ replayFrom (length bytes + 1) bytes 0 0 x
-  progress-end e = sym (from-end _ bytes i n y e) ∙ p .left
-
--- ---- 11, then 13, before any record is run
 module _ (x : Cluster) (bytes : List ℕ) where
-  pub replay-malformed : wellFormed x ≡ false → replay x bytes ≡ replayed (Refused Malformed) 0 x
-  unfolding replay replayUnless first
-  replay-malformed e = rw e
+  begins : {a : Answer} → first (replayTests x bytes) ≡ a → Begins x bytes a
+  unfolding replay listing
+  begins e = record { outcome = rw e; lines = rw e }
 
-  pub replay-long : wellFormed x ≡ true → 65535 < length bytes → replay x bytes ≡ replayed (Refused TranscriptLength) 0 x
-  unfolding replay replayUnless first
-  replay-long e h = rw (e, lt-ltb 65535 (length bytes) h)
+  pub begins-malformed : wellFormed x ≡ false → Begins x bytes (Refused Malformed)
+  unfolding first
+  begins-malformed e = begins (rw e)
 
-  pub replay-runs : wellFormed x ≡ true → length bytes ≤ 65535 → replay x bytes ≡ replayFrom (length bytes + 1) bytes 0 0 x
-  unfolding replay replayUnless first
-  replay-runs e h = rw (e, le-ltb 65535 (length bytes) h)
+  pub begins-long : wellFormed x ≡ true → 65535 < length bytes → Begins x bytes (Refused TranscriptLength)
+  unfolding first
+  begins-long e h = begins (rw (e, lt-ltb 65535 (length bytes) h))
+
+  pub begins-runs : wellFormed x ≡ true → length bytes ≤ 65535 → Begins x bytes Accepted
+  unfolding first
+  begins-runs e h = begins (rw (e, le-ltb 65535 (length bytes) h))
+
+  -- what is put behind the header, and the outcome beside it
+  pub listed-refused : (f : Filled) {g h : Filled} {r : Refusal} → Begins x bytes (Refused r) → g ≡ put header f → h ≡ put (refusedLine 0 r) g
+      → (replayed (Refused r) 0 x ≡ replay x bytes) × (h ≡ put (listing x bytes) f)
+  unfolding replayUnless linesUnless
+  listed-refused f b e d = (sym (b .outcome), rw (b .lines) (put-then _ _ f e d))
+
+  pub listed-run : (f : Filled) {g h : Filled} → Begins x bytes Accepted → g ≡ put header f → h ≡ put (allLines bytes x) g
+      → (wholeRun bytes x ≡ replay x bytes) × (h ≡ put (listing x bytes) f)
+  unfolding replayUnless linesUnless
+  listed-run f b e d = (sym (b .outcome), rw (b .lines) (put-then _ _ f e d))

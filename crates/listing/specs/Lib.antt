@@ -1,0 +1,2 @@
+-- Laws of bytes put into a buffer.
+pub mod Put

@@ -1,8 +1,0 @@
-use mathlib.Core.Path.{sym}
-use lib.Seq.{length-take-le}
-use borrow.Author.Needs.{needs}
-use Rattle.replay.proofs.text.write_part.Statement.{statement}
-use Rattle.replay.proofs.text.write_part.Tie as tie
-
-pub write-part-spec : {M : Type 1} → statement M
-write-part-spec = tie.close (tie.spec (λ c. sym (length-take-le _ _ (c .before .if1 .taken))) (search needs) (search needs) (search needs))
