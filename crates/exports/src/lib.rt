@@ -54,7 +54,7 @@ pub extern "C" fn domezatsy_calls(bytes: &[u8]) -> u32
     let mut at: usize = 0;
     let mut left = bytes.len();
     while left > 0 {
-        let r = transcript::reader::read_at(bytes, at);
+        let r = records::reader::read_at(bytes, at);
         match r {
             Reading::Record { call, next } => {
                 let o = engine::perform(call, x);

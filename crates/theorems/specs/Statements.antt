@@ -6,8 +6,9 @@ use Rattle.model.specs.Refusals.{first}
 use Rattle.model.specs.Transcripts.{replayTests, replayed, replay, callsOf}
 use Rattle.model.specs.Listing.{Row, rowOf, header, lineOf, refusedLine, listing}
 use Rattle.theorems.specs.Names.{LockId, ClientId, Mode, Exclusive, Status, Waiting, Holding, Cluster, Call, Refusal, Answer, Accepted, Refused, _≡_}
-use Rattle.theorems.specs.Names.{true, List, [], _∷_, ℕ, _≤_, _<_, length, eqb, leb, all, statusOf, lockIn, packets, freshLock, fresh, wellFormed, current}
-use Rattle.theorems.specs.Names.{packetAt, run, answersOf, after, perform, lockOf, number, phaseAfter, _+_, _-_, _*_, locks, clients, wireCapacity, _++_, map}
+use Rattle.theorems.specs.Names.{true, List, [], _∷_, ℕ, _≤_, _<_, length, eqb, leb, all, statusOf, lockIn, packets, freshLock, fresh, wellFormed}
+use Rattle.theorems.specs.Names.{current, packetAt, run, answersOf, perform, lockOf, number, phaseAfter, _+_, _-_, _*_, locks, clients, wireCapacity}
+use Rattle.theorems.specs.Names.{after, _++_, map}
 use Rattle.theorems.specs.Tally.{tally}
 use Rattle.theorems.specs.Weights.{markP}
 

@@ -1,4 +1,2 @@
-// Transcripts: a record read from bytes and a position, the reader that keeps both, and the run of a whole transcript.
-pub mod reader;
-pub mod record;
+// The run of a whole transcript, with its listing.
 pub mod run;

@@ -1,6 +1,5 @@
 // The run of a transcript, with its listing. The cluster stays in one local: each record's call is planned on its lock's state, which is written in
 // its place where the plan accepts; then the record's line is put into the caller's buffer, as far as that goes.
-use crate::reader::read_at;
 use engine::lock_calls::carry_out;
 use engine::lock_calls::lock_of;
 use engine::lock_calls::plan_call;
@@ -15,6 +14,7 @@ use model::LOCKS;
 use model::Reading;
 use model::Refusal;
 use model::Replayed;
+use records::reader::read_at;
 ghost use mathlib.Core.Path.{_≡_};
 ghost use mathlib.Core.Bool.{true};
 ghost use Prim.Native.Nat.{_+_, _≤_};

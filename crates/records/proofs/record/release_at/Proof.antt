@@ -1,7 +1,7 @@
 -- `record::release_at` meets its contract: each byte is the one that `byte_at` gives. Assumes nothing.
 use borrow.Author.Needs.{needs}
-use Rattle.transcript.proofs.record.release_at.Statement.{statement}
-use Rattle.transcript.proofs.record.release_at.Tie as tie
+use Rattle.records.proofs.record.release_at.Statement.{statement}
+use Rattle.records.proofs.record.release_at.Tie as tie
 
 returns : tie.Need-returns
 returns c = rw (c .before .before .byte-at .ensures, c .before .byte-at2 .ensures, c .byte-at3 .ensures)

@@ -3,8 +3,8 @@
 use borrow.Author.Needs.{needs}
 use borrow.Author.Tests.{ne-eqb, le-leb, lt-leb, lt-ltb, le-ltb}
 use Rattle.model.specs.Transcripts.{readRecord}
-use Rattle.transcript.proofs.record.read_record.Statement.{statement}
-use Rattle.transcript.proofs.record.read_record.Tie as tie
+use Rattle.records.proofs.record.read_record.Statement.{statement}
+use Rattle.records.proofs.record.read_record.Tie as tie
 
 returns : tie.Need-returns
 unfolding readRecord

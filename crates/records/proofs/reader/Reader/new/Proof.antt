@@ -1,12 +1,12 @@
 -- `reader::Reader::new` meets its contract: a walk of its MIR, by hand. A reader is made of the slice passed and 0, in the result's local. Assumes nothing.
-use Rattle.transcript.proofs.reader.Walk as kit
+use Rattle.records.proofs.reader.Walk as kit
 use kit.{refl, [], _∷_, lit<, ‵, _$_, !, move, drop, use1, fsplit, own-shut}
 use kit.{agg, look, init, forget, lit, and-then, no-more, assigns, returns, alloc1, alloc0, params1, pass1, pass0, free1, free0}
 use kit.{D, B, L, New, spelled, nothing, done, ends, walked, beside, here, held}
-use Rattle.transcript.proofs.reader.Reader.Laws.{lowered}
-use Rattle.transcript.proofs.reader.Reader.new.Key.{name}
-use Rattle.transcript.proofs.reader.Reader.new.Statement.{statement}
-use Rattle.transcript.proofs.reader.Reader.new.Code as code
+use Rattle.records.proofs.reader.Reader.Laws.{lowered}
+use Rattle.records.proofs.reader.Reader.new.Key.{name}
+use Rattle.records.proofs.reader.Reader.new.Statement.{statement}
+use Rattle.records.proofs.reader.Reader.new.Code as code
 
 pub new-spec : {M : Type 1} → statement M
 unfolding code.routine

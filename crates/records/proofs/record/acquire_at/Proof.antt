@@ -1,7 +1,7 @@
 -- `record::acquire_at` meets its contract: each byte is the one that `byte_at` gives. Assumes nothing.
 use borrow.Author.Needs.{needs}
-use Rattle.transcript.proofs.record.acquire_at.Statement.{statement}
-use Rattle.transcript.proofs.record.acquire_at.Tie as tie
+use Rattle.records.proofs.record.acquire_at.Statement.{statement}
+use Rattle.records.proofs.record.acquire_at.Tie as tie
 
 returns : tie.Need-returns
 returns c = rw (c .before .before .before .byte-at .ensures, c .before .before .byte-at2 .ensures, c .before .byte-at3 .ensures, c .byte-at4 .ensures)

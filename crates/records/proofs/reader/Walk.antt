@@ -45,13 +45,13 @@ use Rattle.model.specs.Transcripts.{readRecord}
 use Rattle.model.specs.declared.Reading.{Reading}
 use Rattle.model.proofs.Reading as reading
 use Rattle.model.proofs.Reading.Laws as reading-laws
-use Rattle.transcript.specs.declared.reader.Reader.{Reader}
-use Rattle.transcript.proofs.record.read_record as read-record
-use Rattle.transcript.proofs.reader.Reader as reader
-use Rattle.transcript.proofs.reader.Reader.Laws as laws
-use Rattle.transcript.proofs.reader.Reader.new as new
-use Rattle.transcript.proofs.reader.Reader.advanced as advanced
-use Rattle.transcript.proofs.reader.Reader.next as next
+use Rattle.records.specs.declared.reader.Reader.{Reader}
+use Rattle.records.proofs.record.read_record as read-record
+use Rattle.records.proofs.reader.Reader as reader
+use Rattle.records.proofs.reader.Reader.Laws as laws
+use Rattle.records.proofs.reader.Reader.new as new
+use Rattle.records.proofs.reader.Reader.advanced as advanced
+use Rattle.records.proofs.reader.Reader.next as next
 
 -- ---- the reader's type over a signature's one lifetime, as a struct and as a row, its laws, and its fields' values
 abbrev pub D : Lfts 1 → Declared

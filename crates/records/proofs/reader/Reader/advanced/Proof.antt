@@ -1,12 +1,12 @@
 -- `reader::Reader::advanced` meets its contract: a walk of its MIR, by hand. A reader is made of the bytes of the one passed and a number. Assumes nothing.
-use Rattle.transcript.proofs.reader.Walk as kit
+use Rattle.records.proofs.reader.Walk as kit
 use kit.{refl, [], _∷_, ‵, _$_, !, move, drop, use2, fsplit, own-put, whole, sub, look-in, agg, look, init, forget, stop, fld, from}
 use kit.{load, of-opd, and-then, no-more, assigns, returns, alloc1, alloc0, params1, pass1, pass0, free1, free0}
 use kit.{fields, D, B, L, Advanced, spelled, nothing, done, ends, walked, here, held}
-use Rattle.transcript.proofs.reader.Reader.Laws.{lowered}
-use Rattle.transcript.proofs.reader.Reader.advanced.Key.{name}
-use Rattle.transcript.proofs.reader.Reader.advanced.Statement.{statement}
-use Rattle.transcript.proofs.reader.Reader.advanced.Code as code
+use Rattle.records.proofs.reader.Reader.Laws.{lowered}
+use Rattle.records.proofs.reader.Reader.advanced.Key.{name}
+use Rattle.records.proofs.reader.Reader.advanced.Statement.{statement}
+use Rattle.records.proofs.reader.Reader.advanced.Code as code
 
 pub advanced-spec : {M : Type 1} → statement M
 unfolding code.routine

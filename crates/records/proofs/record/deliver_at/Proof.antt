@@ -1,7 +1,7 @@
 -- `record::deliver_at` meets its contract: each byte is the one that `byte_at` gives. Assumes nothing.
 use borrow.Author.Needs.{needs}
-use Rattle.transcript.proofs.record.deliver_at.Statement.{statement}
-use Rattle.transcript.proofs.record.deliver_at.Tie as tie
+use Rattle.records.proofs.record.deliver_at.Statement.{statement}
+use Rattle.records.proofs.record.deliver_at.Tie as tie
 
 returns : tie.Need-returns
 returns c = rw (c .before .byte-at .ensures, c .byte-at2 .ensures)

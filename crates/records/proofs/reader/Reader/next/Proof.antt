@@ -1,14 +1,14 @@
 -- `reader::Reader::next` meets its contract: a walk of its MIR, by hand. The struct is taken apart, and `read_record` is called on the slice and the number.
 -- All that the proof knows of `read_record` is that it meets its contract. Assumes nothing.
-use Rattle.transcript.proofs.reader.Walk as kit
+use Rattle.records.proofs.reader.Walk as kit
 use kit.{_≡_, refl, [], _∷_, tables, ‵, given, _$_, !, move, drop, use1, learn, fsplit, all-own, own-open, framed}
 use kit.{whole, sub, look-in, look, init, forget, stop, fld, from, load, of-opd, and-then, no-more, assigns, returns, alloc1, alloc0, params1, pass1, pass0}
 use kit.{free1, free0, fields, D, L, reading-fits, Next, Read, spelled, nothing, done, ends, calls, walked, here, held}
-use Rattle.transcript.proofs.reader.Reader.Laws.{lowered}
-use Rattle.transcript.proofs.record.read_record.Met.{met}
-use Rattle.transcript.proofs.reader.Reader.next.Key.{name}
-use Rattle.transcript.proofs.reader.Reader.next.Statement.{statement}
-use Rattle.transcript.proofs.reader.Reader.next.Code as code
+use Rattle.records.proofs.reader.Reader.Laws.{lowered}
+use Rattle.records.proofs.record.read_record.Met.{met}
+use Rattle.records.proofs.reader.Reader.next.Key.{name}
+use Rattle.records.proofs.reader.Reader.next.Statement.{statement}
+use Rattle.records.proofs.reader.Reader.next.Code as code
 
 pub next-spec : {M : Type 1} → statement M
 unfolding code.routine

@@ -2,8 +2,8 @@
 use mathlib.Core.Path.{sym}
 use borrow.Author.Needs.{needs}
 use lib.ListN.{List·getD-eq-default}
-use Rattle.transcript.proofs.record.byte_at.Statement.{statement}
-use Rattle.transcript.proofs.record.byte_at.Tie as tie
+use Rattle.records.proofs.record.byte_at.Statement.{statement}
+use Rattle.records.proofs.record.byte_at.Tie as tie
 
 returns-2 : tie.Need-returns-2
 returns-2 c = sym (List·getD-eq-default (c .before .args .bytes .now) 0 (c .if1 .left))

@@ -1,15 +1,15 @@
 -- `reader::read_at` meets its contract: a walk of its MIR, by hand. A reader is made by one call, held in a local, passed to the next, and so on.
 -- All that the proof knows of the three is that each meets its contract. Assumes nothing.
-use Rattle.transcript.proofs.reader.Walk as kit
+use Rattle.records.proofs.reader.Walk as kit
 use kit.{refl, [], _∷_, w64, vint, tables, _$_, !, move, drop, fsplit, framed}
 use kit.{look, init, forget, and-then, no-more, returns, alloc1, alloc0, params1, pass1, pass0, free1, free0, Val}
 use kit.{reader-fits, reading-fits, New, Advanced, Next, Read, Gives, spelled, nothing, done, ends, calls, walked, alone, beside, held}
-use Rattle.transcript.proofs.reader.Reader.new.Met as new
-use Rattle.transcript.proofs.reader.Reader.advanced.Met as advanced
-use Rattle.transcript.proofs.reader.Reader.next.Met as next
-use Rattle.transcript.proofs.reader.read_at.Key.{name}
-use Rattle.transcript.proofs.reader.read_at.Statement.{statement}
-use Rattle.transcript.proofs.reader.read_at.Code as code
+use Rattle.records.proofs.reader.Reader.new.Met as new
+use Rattle.records.proofs.reader.Reader.advanced.Met as advanced
+use Rattle.records.proofs.reader.Reader.next.Met as next
+use Rattle.records.proofs.reader.read_at.Key.{name}
+use Rattle.records.proofs.reader.read_at.Statement.{statement}
+use Rattle.records.proofs.reader.read_at.Code as code
 
 pub read-at-spec : {M : Type 1} → statement M
 unfolding code.routine
