@@ -9,6 +9,7 @@ mod delivery;
 pub mod digest;
 mod drain;
 pub mod generator;
+pub mod inspect;
 pub mod model;
 pub mod random_calls;
 pub mod random_runs;

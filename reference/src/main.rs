@@ -1,10 +1,11 @@
 //! The command line of the reference program.
 
 use reference::generator::SEED_LIMIT;
+use reference::inspect::inspect;
 use reference::random_runs::{random_run, FIRST_RUN, LAST_RUN};
 use reference::random_states::{random_state, FIRST_STATE, LAST_STATE};
 use reference::random_transcripts::{
-    random_transcript, transcript_bytes, FIRST_TRANSCRIPT, LAST_TRANSCRIPT,
+    long_transcript_bytes, random_transcript, transcript_bytes, FIRST_TRANSCRIPT, LAST_TRANSCRIPT,
 };
 use reference::report::{Report, KINDS};
 use reference::transcript::{listing, TRANSCRIPT_LIMIT};
@@ -12,9 +13,9 @@ use std::io::{self, BufWriter, Read, Write};
 use std::ops::RangeInclusive;
 use std::process::ExitCode;
 
-const USAGE: &str = "usage: reference replay < TRANSCRIPT
+const USAGE: &str = "usage: reference replay|inspect < TRANSCRIPT
        reference runs|states|transcripts [SEED] [--each-step]
-       reference bytes SEED
+       reference bytes|long SEED
        reference counts";
 
 type RunSeed = fn(u64, &mut Report) -> io::Result<()>;
@@ -30,10 +31,12 @@ fn main() -> ExitCode {
     let mut out = BufWriter::new(io::stdout().lock());
     let done = match words.as_slice() {
         ["replay"] => replay(&mut out),
+        ["inspect"] => read_transcript().and_then(|bytes| inspect(&bytes, &mut out)),
         ["runs", options @ ..] => seeds(RUNS, options, &mut out),
         ["states", options @ ..] => seeds(STATES, options, &mut out),
         ["transcripts", options @ ..] => seeds(TRANSCRIPTS, options, &mut out),
-        ["bytes", seed] => bytes(seed, &mut out),
+        ["bytes", seed] => bytes(transcript_bytes, seed, &mut out),
+        ["long", seed] => bytes(long_transcript_bytes, seed, &mut out),
         ["counts"] => counts(&mut out),
         _ => Err(usage()),
     };
@@ -51,11 +54,15 @@ fn usage() -> io::Error {
 }
 
 fn replay(out: &mut dyn Write) -> io::Result<()> {
+    out.write_all(listing(&read_transcript()?).as_bytes())
+}
+
+fn read_transcript() -> io::Result<Vec<u8>> {
     let mut transcript = Vec::new();
     // One byte above the limit is enough to know that it is passed.
     let limit = TRANSCRIPT_LIMIT as u64 + 1;
     io::stdin().take(limit).read_to_end(&mut transcript)?;
-    out.write_all(listing(&transcript).as_bytes())
+    Ok(transcript)
 }
 
 /// Runs all seeds, or the one that the options name.
@@ -83,8 +90,8 @@ fn parse_seed(word: &str) -> io::Result<u64> {
     seed.filter(|&seed| seed < SEED_LIMIT).ok_or_else(usage)
 }
 
-fn bytes(seed: &str, out: &mut dyn Write) -> io::Result<()> {
-    out.write_all(&transcript_bytes(parse_seed(seed)?))
+fn bytes(make: fn(u64) -> Vec<u8>, seed: &str, out: &mut dyn Write) -> io::Result<()> {
+    out.write_all(&make(parse_seed(seed)?))
 }
 
 /// How often each kind of call met each answer, from 0 to 14.

@@ -17,6 +17,13 @@ const BUFFER: usize = TRANSCRIPT_LIMIT + 1;
 /// The last number of records fills the buffer.
 const RECORDS: [u64; 8] = [0, 1, 3, 10, 40, 160, 640, 11_000];
 
+/// The fewest records of a long transcript, and how many more it may have.
+const LONG_RECORDS: (u64, u64) = (2_000, 8_000);
+/// A long transcript takes the next profile after so many records.
+const PROFILE_RECORDS: u64 = 256;
+/// One in so many refused calls stays in a long transcript.
+const KEPT_REFUSALS: u64 = 8;
+
 /// Runs one seed of `transcripts`.
 pub fn random_transcript(seed: u64, report: &mut Report) -> io::Result<()> {
     let bytes = transcript_bytes(seed);
@@ -62,6 +69,34 @@ pub fn transcript_bytes(seed: u64) -> Vec<u8> {
     bytes.truncate(BUFFER);
     if cut < 8 {
         bytes.truncate(bytes.len().saturating_sub(cut));
+    }
+    bytes
+}
+
+/// The bytes of the long transcript with this seed: no damage, all profiles in
+/// turn, and most of its calls accepted.
+pub fn long_transcript_bytes(seed: u64) -> Vec<u8> {
+    let mut generator = Generator::new(seed);
+    let (fewest, more) = LONG_RECORDS;
+    let records = fewest + generator.draw(more + 1);
+    let mut cluster = Cluster::new();
+    let mut bytes = Vec::new();
+    let mut made = 0;
+    while made < records {
+        let part = seed + made / PROFILE_RECORDS;
+        let profile = Profile::of_seed(part);
+        let call = profile.choose_call(part, &generator.eight(), &cluster);
+        // A refused call changes nothing, so it can be left out.
+        if call.perform(&mut cluster).is_err() && generator.draw(KEPT_REFUSALS) > 0 {
+            continue;
+        }
+        let length = bytes.len();
+        push_record(&call, None, &mut bytes);
+        if bytes.len() > TRANSCRIPT_LIMIT {
+            bytes.truncate(length);
+            break;
+        }
+        made += 1;
     }
     bytes
 }

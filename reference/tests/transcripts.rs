@@ -4,6 +4,7 @@ mod common;
 
 use common::answer;
 use reference::model::Cluster;
+use reference::random_transcripts::long_transcript_bytes;
 use reference::transcript::{listing, LISTING_HEADER};
 
 const EXAMPLE: [u8; 39] = [
@@ -88,4 +89,20 @@ fn longest_transcript() {
     bytes.push(0);
     assert_eq!(run(&bytes), (13, 0, Cluster::new()));
     assert_eq!(listing(&bytes), format!("{LISTING_HEADER}0 - 13 -\n"));
+}
+
+#[test]
+fn long_transcripts_are_good_and_mostly_accepted() {
+    for seed in 1..=20 {
+        let bytes = long_transcript_bytes(seed);
+        assert!(bytes.len() <= 65_535);
+        assert_eq!(bytes, long_transcript_bytes(seed));
+        let mut accepted = 0;
+        let whole = Cluster::new().run_transcript_with(&bytes, |_, _, outcome, _| {
+            accepted += usize::from(outcome.is_ok());
+        });
+        assert_eq!(answer(whole.answer), 0);
+        assert!((2_000..=10_000).contains(&whole.record), "{whole:?}");
+        assert!(2 * accepted > whole.record && accepted < whole.record);
+    }
 }

@@ -18,7 +18,7 @@ fn put_byte(out: &mut [u8], at: usize, b: u8) -> usize
     }
 }
 
-fn put_text(out: &mut [u8], at: usize, s: &[u8]) -> usize
+pub fn put_text(out: &mut [u8], at: usize, s: &[u8]) -> usize
     ensures { λ r. ⌜ filled (now (out .exit)) r ≡ put (now (s .entry)) (filled (now (out .entry)) at) ⌝ }
 {
     let mut k = at;
@@ -48,7 +48,7 @@ fn put_digit(out: &mut [u8], at: usize, d: u16, n: u16) -> usize
     }
 }
 
-fn put_decimal(out: &mut [u8], at: usize, n: u16) -> usize
+pub fn put_decimal(out: &mut [u8], at: usize, n: u16) -> usize
     ensures { λ r. ⌜ filled (now (out .exit)) r ≡ put (decimal n) (filled (now (out .entry)) at) ⌝ }
 {
     let k = put_digit(out, at, 10000, n);

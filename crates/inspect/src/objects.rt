@@ -1,0 +1,108 @@
+// A record's line, and the last line, in JSON.
+use crate::parts::put_comma;
+use crate::parts::put_field;
+use crate::parts::put_state;
+use engine::drain;
+use engine::lock_calls::lock_of;
+use listing::put_text;
+use model::Answer;
+use model::Call;
+use model::Cluster;
+use model::LOCKS;
+use model::LockId;
+use model::MachineId;
+use model::Replayed;
+use model::TaskId;
+
+fn put_client(out: &mut [u8], at: usize, l: LockId, m: MachineId, t: TaskId) -> usize {
+    let k = put_field(out, at, b",\"lock\":", l.0 as u16);
+    let k = put_field(out, k, b",\"machine\":", m.0 as u16);
+    put_field(out, k, b",\"task\":", t.0 as u16)
+}
+
+// The record's kind and its fields, as they stand in it.
+fn put_call(out: &mut [u8], at: usize, c: Call) -> usize {
+    match c {
+        Call::Acquire {
+            lock,
+            machine,
+            task,
+            mode,
+        } => {
+            let k = put_text(out, at, b",\"kind\":\"acquire\"");
+            let k = put_client(out, k, lock, machine, task);
+            put_field(out, k, b",\"mode\":", mode as u16)
+        }
+        Call::Release {
+            lock,
+            machine,
+            task,
+        } => {
+            let k = put_text(out, at, b",\"kind\":\"release\"");
+            put_client(out, k, lock, machine, task)
+        }
+        Call::Deliver { lock, index } => {
+            let k = put_field(out, at, b",\"kind\":\"deliver\",\"lock\":", lock.0 as u16);
+            put_field(out, k, b",\"index\":", index as u16)
+        }
+    }
+}
+
+fn put_lock(out: &mut [u8], at: usize, x: Cluster, l: LockId) -> usize {
+    if l.0 < LOCKS as u8 {
+        let i = l.0 as usize;
+        let s = x.locks[i];
+        put_state(out, at, s)
+    } else {
+        put_text(out, at, b"null")
+    }
+}
+
+// The line of the record with number n, whose call gave the answer and the cluster.
+pub fn put_record(out: &mut [u8], at: usize, n: u16, c: Call, answer: u8, x: Cluster) -> usize {
+    let k = put_field(out, at, b"{\"n\":", n);
+    let k = put_call(out, k, c);
+    let k = put_field(out, k, b",\"answer\":", answer as u16);
+    let k = put_text(out, k, b",\"state\":");
+    let k = put_lock(out, k, x, lock_of(c));
+    put_text(out, k, b"}\n")
+}
+
+fn put_drain(out: &mut [u8], at: usize, x: Cluster, l: u8) -> usize {
+    let d = drain(x, LockId(l));
+    let a = d.answer;
+    let k = put_field(out, at, b"{\"lock\":", l as u16);
+    let k = put_field(out, k, b",\"answer\":", a.number() as u16);
+    let k = put_field(out, k, b",\"count\":", d.count);
+    put_text(out, k, b"}")
+}
+
+fn put_drains(out: &mut [u8], start: usize, x: Cluster) -> usize {
+    let mut k = start;
+    for l in 0..LOCKS as u8 {
+        k = put_comma(out, start, k);
+        k = put_drain(out, k, x, l);
+    }
+    k
+}
+
+// How the run ended, by its answer.
+fn put_ending(out: &mut [u8], at: usize, answer: u8) -> usize {
+    match answer {
+        0 => put_text(out, at, b"{\"end\":\"end\""),
+        13 => put_text(out, at, b"{\"end\":\"too long\""),
+        _ => put_text(out, at, b"{\"end\":\"bad record\""),
+    }
+}
+
+pub fn put_end(out: &mut [u8], at: usize, r: Replayed) -> usize {
+    let a = r.answer;
+    let x = r.cluster;
+    let answer = a.number();
+    let k = put_ending(out, at, answer);
+    let k = put_field(out, k, b",\"answer\":", answer as u16);
+    let k = put_field(out, k, b",\"records\":", r.records);
+    let k = put_text(out, k, b",\"drains\":[");
+    let k = put_drains(out, k, x);
+    put_text(out, k, b"]}\n")
+}

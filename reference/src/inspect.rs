@@ -1,0 +1,205 @@
+//! The lines of inspect.md: one JSON object for each record of a transcript,
+//! with the state of its lock, and one for the end.
+
+use crate::answer::{answer_number, Outcome, Refusal};
+use crate::model::{
+    Address, Agent, ClientId, ClientStatus, Cluster, Decider, LockId, LockState, Message, Mode,
+    Packet, Waiter, CLIENTS, LOCKS,
+};
+use crate::transcript::{Record, TranscriptOutcome};
+use std::fmt;
+use std::io::{self, Write};
+
+/// Runs a transcript on a fresh cluster and writes all its lines.
+pub fn inspect(bytes: &[u8], out: &mut dyn Write) -> io::Result<()> {
+    let mut cluster = Cluster::new();
+    let mut written = Ok(());
+    let outcome = cluster.run_transcript_with(bytes, |number, record, outcome, cluster| {
+        // A run cannot be stopped from here; after an error it goes on in silence.
+        if written.is_ok() {
+            written = record_line(number, record, outcome, cluster, out);
+        }
+    });
+    written?;
+    end_line(outcome, &cluster, out)
+}
+
+fn record_line(
+    number: usize,
+    record: &Record,
+    outcome: Outcome,
+    cluster: &Cluster,
+    out: &mut dyn Write,
+) -> io::Result<()> {
+    let (call, answer) = (Json(record), answer_number(&outcome));
+    // A lock out of range has no state.
+    let state = OrNull(cluster.locks.get(record.lock().index()).map(Json));
+    writeln!(
+        out,
+        r#"{{"n":{number},{call},"answer":{answer},"state":{state}}}"#
+    )
+}
+
+fn end_line(outcome: TranscriptOutcome, cluster: &Cluster, out: &mut dyn Write) -> io::Result<()> {
+    let end = match outcome.answer {
+        Ok(()) => "end",
+        Err(Refusal::RecordInvalid) => "bad record",
+        Err(Refusal::TranscriptTooLong) => "too long",
+        Err(_) => unreachable!("a fresh cluster is well formed"),
+    };
+    let (answer, records) = (answer_number(&outcome.answer), outcome.record);
+    let drains = List((0..LOCKS as u8).map(|lock| drain_object(LockId(lock), cluster)));
+    writeln!(
+        out,
+        r#"{{"end":"{end}","answer":{answer},"records":{records},"drains":[{drains}]}}"#
+    )
+}
+
+/// What draining one lock gives, on a copy, so that no drain sees another.
+fn drain_object(lock: LockId, cluster: &Cluster) -> String {
+    let outcome = cluster.clone().drain(lock);
+    let (lock, answer) = (lock.0, answer_number(&outcome));
+    // A refused drain counts 0 (document 01, 'Zero and the refusals').
+    let count = outcome.unwrap_or(0);
+    format!(r#"{{"lock":{lock},"answer":{answer},"count":{count}}}"#)
+}
+
+/// A part of the state, or of a record, that is shown in JSON.
+struct Json<'a, T>(&'a T);
+
+/// A value, or `null` where there is none.
+struct OrNull<T>(Option<T>);
+
+/// Values with commas between them.
+struct List<I>(I);
+
+impl<T: fmt::Display> fmt::Display for OrNull<T> {
+    fn fmt(&self, f: &mut fmt::Formatter) -> fmt::Result {
+        match &self.0 {
+            Some(value) => value.fmt(f),
+            None => f.write_str("null"),
+        }
+    }
+}
+
+impl<I> fmt::Display for List<I>
+where
+    I: Iterator<Item: fmt::Display> + Clone,
+{
+    fn fmt(&self, f: &mut fmt::Formatter) -> fmt::Result {
+        for (place, value) in self.0.clone().enumerate() {
+            if place > 0 {
+                f.write_str(",")?;
+            }
+            value.fmt(f)?;
+        }
+        Ok(())
+    }
+}
+
+/// No object of its own: the bytes are fields of the record's line, in range
+/// or not.
+impl fmt::Display for Json<'_, Record> {
+    fn fmt(&self, f: &mut fmt::Formatter) -> fmt::Result {
+        match *self.0 {
+            Record::Acquire(lock, machine, task, mode) => {
+                let (lock, machine, task) = (lock.0, machine.0, task.0);
+                write!(f, r#""kind":"acquire","lock":{lock},"machine":{machine},"#)?;
+                write!(f, r#""task":{task},"mode":{mode}"#)
+            }
+            Record::Release(lock, machine, task) => {
+                let (lock, machine, task) = (lock.0, machine.0, task.0);
+                write!(
+                    f,
+                    r#""kind":"release","lock":{lock},"machine":{machine},"task":{task}"#
+                )
+            }
+            Record::Deliver(lock, index) => {
+                let lock = lock.0;
+                write!(f, r#""kind":"deliver","lock":{lock},"index":{index}"#)
+            }
+        }
+    }
+}
+
+impl fmt::Display for Json<'_, LockState> {
+    fn fmt(&self, f: &mut fmt::Formatter) -> fmt::Result {
+        let decider = Json(&self.0.decider);
+        let agents = List(self.0.agents.iter().map(|a| OrNull(a.as_ref().map(Json))));
+        let clients = List(self.0.clients.iter().map(Json));
+        let wire = List(self.0.wire.iter().map(Json));
+        write!(f, r#"{{"decider":{decider},"agents":[{agents}],"#)?;
+        write!(f, r#""clients":[{clients}],"wire":[{wire}]}}"#)
+    }
+}
+
+impl fmt::Display for Json<'_, Decider> {
+    fn fmt(&self, f: &mut fmt::Formatter) -> fmt::Result {
+        let Decider { owner, incarnation } = *self.0;
+        // A free lock has mode 0, but no machine.
+        let mode = owner.map_or(0, |owner| owner.mode.number());
+        let machine = OrNull(owner.map(|owner| owner.machine.0));
+        write!(
+            f,
+            r#"{{"mode":{mode},"machine":{machine},"incarnation":{incarnation}}}"#
+        )
+    }
+}
+
+impl fmt::Display for Json<'_, Agent> {
+    fn fmt(&self, f: &mut fmt::Formatter) -> fmt::Result {
+        let agent = self.0;
+        let (mode, incarnation) = (agent.mode.number(), agent.incarnation);
+        let all = 0..CLIENTS as u8;
+        let holders = List(all.filter(|&client| agent.holders.contains(ClientId(client))));
+        let queue = List(agent.queue.iter().map(Json));
+        write!(f, r#"{{"mode":{mode},"holders":[{holders}],"#)?;
+        write!(f, r#""queue":[{queue}],"incarnation":{incarnation}}}"#)
+    }
+}
+
+impl fmt::Display for Json<'_, Waiter> {
+    fn fmt(&self, f: &mut fmt::Formatter) -> fmt::Result {
+        let (client, mode) = (self.0.client.0, self.0.mode.number());
+        write!(f, r#"{{"client":{client},"mode":{mode}}}"#)
+    }
+}
+
+impl fmt::Display for Json<'_, ClientStatus> {
+    fn fmt(&self, f: &mut fmt::Formatter) -> fmt::Result {
+        let (status, mode) = match *self.0 {
+            ClientStatus::Idle => ("idle", None),
+            ClientStatus::Waiting(mode) => ("waiting", Some(mode)),
+            ClientStatus::Holding(mode) => ("holding", Some(mode)),
+        };
+        let mode = OrNull(mode.map(Mode::number));
+        write!(f, r#"{{"status":"{status}","mode":{mode}}}"#)
+    }
+}
+
+impl fmt::Display for Json<'_, Packet> {
+    fn fmt(&self, f: &mut fmt::Formatter) -> fmt::Result {
+        let packet = self.0;
+        let (kind, mode, granted) = match packet.message {
+            Message::Acquire { mode, granted, .. } => ("ACQUIRE", Some(mode), granted),
+            Message::Grant { mode, .. } => ("GRANT", Some(mode), false),
+            Message::Release { .. } => ("RELEASE", None, false),
+            Message::Free => ("FREE", None, false),
+        };
+        let to = OrNull(match packet.address {
+            Address::Decider => None,
+            Address::Machine(machine) => Some(machine.0),
+        });
+        let client = OrNull(packet.message.client().map(|client| client.0));
+        let mode = OrNull(mode.map(Mode::number));
+        let (rejected, agent) = (packet.rejected, OrNull(packet.agent.as_ref().map(Json)));
+        write!(
+            f,
+            r#"{{"kind":"{kind}","to":{to},"client":{client},"mode":{mode},"#
+        )?;
+        write!(
+            f,
+            r#""granted":{granted},"rejected":{rejected},"agent":{agent}}}"#
+        )
+    }
+}

@@ -1,0 +1,464 @@
+//! The lines of inspect.md, written out by hand.
+//!
+//! They are folded for reading: a line that begins with a blank goes on with
+//! the one before it. IDLE stands for an idle client and REST for the drains of
+//! the locks 1 to 7 that are at rest.
+
+use reference::inspect::inspect;
+use std::io::Write;
+use std::process::{Command, Stdio};
+
+const IDLE: &str = r#"{"status":"idle","mode":null}"#;
+
+const REST: &str = concat!(
+    r#"{"lock":1,"answer":0,"count":0},{"lock":2,"answer":0,"count":0},"#,
+    r#"{"lock":3,"answer":0,"count":0},{"lock":4,"answer":0,"count":0},"#,
+    r#"{"lock":5,"answer":0,"count":0},{"lock":6,"answer":0,"count":0},"#,
+    r#"{"lock":7,"answer":0,"count":0}"#
+);
+
+/// 0/0 asks for lock 0, shared, and gets it.
+const TAKE: [u8; 20] = [
+    8, 0, 1, 0, 0, 0, 0, 3, //
+    6, 0, 3, 0, 0, 0, //
+    6, 0, 3, 0, 0, 0,
+];
+
+const TAKE_LINES: &str = r#"
+{"n":1,"kind":"acquire","lock":0,"machine":0,"task":0,"mode":3,"answer":0,"state":{
+ "decider":{"mode":0,"machine":null,"incarnation":0},
+ "agents":[null,null,null,null],
+ "clients":[{"status":"waiting","mode":3},IDLE,IDLE,IDLE,
+ IDLE,IDLE,IDLE,IDLE,IDLE,IDLE,IDLE,IDLE,IDLE,IDLE,IDLE,IDLE],
+ "wire":[{"kind":"ACQUIRE","to":null,"client":0,"mode":3,
+ "granted":false,"rejected":false,"agent":null}]}}
+{"n":2,"kind":"deliver","lock":0,"index":0,"answer":0,"state":{
+ "decider":{"mode":3,"machine":0,"incarnation":0},
+ "agents":[null,null,null,null],
+ "clients":[{"status":"waiting","mode":3},IDLE,IDLE,IDLE,
+ IDLE,IDLE,IDLE,IDLE,IDLE,IDLE,IDLE,IDLE,IDLE,IDLE,IDLE,IDLE],
+ "wire":[{"kind":"GRANT","to":0,"client":0,"mode":3,
+ "granted":false,"rejected":false,
+ "agent":{"mode":3,"holders":[],"queue":[],"incarnation":0}}]}}
+{"n":3,"kind":"deliver","lock":0,"index":0,"answer":0,"state":{
+ "decider":{"mode":3,"machine":0,"incarnation":0},
+ "agents":[{"mode":3,"holders":[0],"queue":[],"incarnation":0},null,null,null],
+ "clients":[{"status":"holding","mode":3},IDLE,IDLE,IDLE,
+ IDLE,IDLE,IDLE,IDLE,IDLE,IDLE,IDLE,IDLE,IDLE,IDLE,IDLE,IDLE],
+ "wire":[]}}
+"#;
+
+/// 1/0 asks as well, and the decider grants it (D2).
+const SHARE: [u8; 14] = [
+    8, 0, 1, 0, 0, 1, 0, 3, //
+    6, 0, 3, 0, 0, 0,
+];
+
+const SHARE_LINES: &str = r#"
+{"n":4,"kind":"acquire","lock":0,"machine":1,"task":0,"mode":3,"answer":0,"state":{
+ "decider":{"mode":3,"machine":0,"incarnation":0},
+ "agents":[{"mode":3,"holders":[0],"queue":[],"incarnation":0},null,null,null],
+ "clients":[{"status":"holding","mode":3},IDLE,IDLE,IDLE,
+ {"status":"waiting","mode":3},IDLE,IDLE,IDLE,
+ IDLE,IDLE,IDLE,IDLE,IDLE,IDLE,IDLE,IDLE],
+ "wire":[{"kind":"ACQUIRE","to":null,"client":4,"mode":3,
+ "granted":false,"rejected":false,"agent":null}]}}
+{"n":5,"kind":"deliver","lock":0,"index":0,"answer":0,"state":{
+ "decider":{"mode":3,"machine":0,"incarnation":1},
+ "agents":[{"mode":3,"holders":[0],"queue":[],"incarnation":0},null,null,null],
+ "clients":[{"status":"holding","mode":3},IDLE,IDLE,IDLE,
+ {"status":"waiting","mode":3},IDLE,IDLE,IDLE,
+ IDLE,IDLE,IDLE,IDLE,IDLE,IDLE,IDLE,IDLE],
+ "wire":[{"kind":"GRANT","to":1,"client":4,"mode":3,
+ "granted":false,"rejected":false,"agent":null},
+ {"kind":"ACQUIRE","to":0,"client":4,"mode":3,
+ "granted":true,"rejected":false,"agent":null}]}}
+"#;
+
+fn unfolded(parts: &[&str]) -> String {
+    let text: String = parts.iter().map(|part| part.trim_start()).collect();
+    let text = text.replace("\n ", "");
+    text.replace("IDLE", IDLE).replace("REST", REST)
+}
+
+fn inspected(bytes: &[u8]) -> String {
+    let mut out = Vec::new();
+    inspect(bytes, &mut out).expect("a vector takes every write");
+    String::from_utf8(out).expect("JSON is text")
+}
+
+/// Compares line by line, so that a failure shows one line and not all.
+fn assert_lines(bytes: &[u8], parts: &[&str]) {
+    let (found, expected) = (inspected(bytes), unfolded(parts));
+    for (found, expected) in found.lines().zip(expected.lines()) {
+        assert_eq!(found, expected);
+    }
+    assert_eq!(found, expected);
+}
+
+fn assert_last_lines(bytes: &[u8], text: &str) {
+    let (found, expected) = (inspected(bytes), unfolded(&[text]));
+    let skipped = found.lines().count() - expected.lines().count();
+    for (found, expected) in found.lines().skip(skipped).zip(expected.lines()) {
+        assert_eq!(found, expected);
+    }
+    assert!(found.ends_with(&expected));
+}
+
+#[test]
+fn a_line_in_full() {
+    let bytes = [8, 0, 1, 0, 5, 3, 2, 2];
+    let expected = concat!(
+        r#"{"n":1,"kind":"acquire","lock":5,"machine":3,"task":2,"mode":2,"answer":0,"#,
+        r#""state":{"decider":{"mode":0,"machine":null,"incarnation":0},"#,
+        r#""agents":[null,null,null,null],"clients":["#,
+        r#"{"status":"idle","mode":null},{"status":"idle","mode":null},"#,
+        r#"{"status":"idle","mode":null},{"status":"idle","mode":null},"#,
+        r#"{"status":"idle","mode":null},{"status":"idle","mode":null},"#,
+        r#"{"status":"idle","mode":null},{"status":"idle","mode":null},"#,
+        r#"{"status":"idle","mode":null},{"status":"idle","mode":null},"#,
+        r#"{"status":"idle","mode":null},{"status":"idle","mode":null},"#,
+        r#"{"status":"idle","mode":null},{"status":"idle","mode":null},"#,
+        r#"{"status":"waiting","mode":2},{"status":"idle","mode":null}],"#,
+        r#""wire":[{"kind":"ACQUIRE","to":null,"client":14,"mode":2,"#,
+        r#""granted":false,"rejected":false,"agent":null}]}}"#,
+        "\n",
+        r#"{"end":"end","answer":0,"records":1,"drains":["#,
+        r#"{"lock":0,"answer":0,"count":0},{"lock":1,"answer":0,"count":0},"#,
+        r#"{"lock":2,"answer":0,"count":0},{"lock":3,"answer":0,"count":0},"#,
+        r#"{"lock":4,"answer":0,"count":0},{"lock":5,"answer":0,"count":4},"#,
+        r#"{"lock":6,"answer":0,"count":0},{"lock":7,"answer":0,"count":0}]}"#,
+        "\n"
+    );
+    assert_eq!(inspected(&bytes), expected);
+}
+
+const EXAMPLE_TAIL: [u8; 19] = [
+    7, 0, 2, 0, 0, 0, 0, //
+    6, 0, 3, 0, 0, 0, //
+    6, 0, 3, 0, 0, 0,
+];
+
+const EXAMPLE_TAIL_LINES: &str = r#"
+{"n":4,"kind":"release","lock":0,"machine":0,"task":0,"answer":0,"state":{
+ "decider":{"mode":3,"machine":0,"incarnation":0},
+ "agents":[null,null,null,null],
+ "clients":[IDLE,IDLE,IDLE,IDLE,IDLE,IDLE,IDLE,IDLE,
+ IDLE,IDLE,IDLE,IDLE,IDLE,IDLE,IDLE,IDLE],
+ "wire":[{"kind":"FREE","to":null,"client":null,"mode":null,
+ "granted":false,"rejected":false,
+ "agent":{"mode":3,"holders":[],"queue":[],"incarnation":0}}]}}
+{"n":5,"kind":"deliver","lock":0,"index":0,"answer":0,"state":{
+ "decider":{"mode":0,"machine":null,"incarnation":0},
+ "agents":[null,null,null,null],
+ "clients":[IDLE,IDLE,IDLE,IDLE,IDLE,IDLE,IDLE,IDLE,
+ IDLE,IDLE,IDLE,IDLE,IDLE,IDLE,IDLE,IDLE],
+ "wire":[]}}
+{"n":6,"kind":"deliver","lock":0,"index":0,"answer":8,"state":{
+ "decider":{"mode":0,"machine":null,"incarnation":0},
+ "agents":[null,null,null,null],
+ "clients":[IDLE,IDLE,IDLE,IDLE,IDLE,IDLE,IDLE,IDLE,
+ IDLE,IDLE,IDLE,IDLE,IDLE,IDLE,IDLE,IDLE],
+ "wire":[]}}
+{"end":"end","answer":0,"records":6,"drains":[{"lock":0,"answer":0,"count":0},REST]}
+"#;
+
+#[test]
+fn example_listing() {
+    let bytes = [&TAKE[..], &EXAMPLE_TAIL].concat();
+    assert_lines(&bytes, &[TAKE_LINES, EXAMPLE_TAIL_LINES]);
+}
+
+/// The drain shows the GRANT, lists 1/0, releases 0/0 and 1/0, sends the
+/// RELEASE to the decider, on to the agent, and ends with the FREE.
+#[test]
+fn d2_grant_and_granted_request() {
+    let end = r#"
+{"end":"end","answer":0,"records":5,"drains":[{"lock":0,"answer":0,"count":7},REST]}
+"#;
+    let bytes = [&TAKE[..], &SHARE].concat();
+    assert_lines(&bytes, &[TAKE_LINES, SHARE_LINES, end]);
+}
+
+const EARLY_FREE_LINES: &str = r#"
+{"n":6,"kind":"release","lock":0,"machine":0,"task":0,"answer":0,"state":{
+ "decider":{"mode":3,"machine":0,"incarnation":1},
+ "agents":[null,null,null,null],
+ "clients":[IDLE,IDLE,IDLE,IDLE,{"status":"waiting","mode":3},IDLE,IDLE,IDLE,
+ IDLE,IDLE,IDLE,IDLE,IDLE,IDLE,IDLE,IDLE],
+ "wire":[{"kind":"GRANT","to":1,"client":4,"mode":3,
+ "granted":false,"rejected":false,"agent":null},
+ {"kind":"ACQUIRE","to":0,"client":4,"mode":3,
+ "granted":true,"rejected":false,"agent":null},
+ {"kind":"FREE","to":null,"client":null,"mode":null,
+ "granted":false,"rejected":false,
+ "agent":{"mode":3,"holders":[],"queue":[],"incarnation":0}}]}}
+{"n":7,"kind":"deliver","lock":0,"index":2,"answer":0,"state":{
+ "decider":{"mode":3,"machine":0,"incarnation":1},
+ "agents":[null,null,null,null],
+ "clients":[IDLE,IDLE,IDLE,IDLE,{"status":"waiting","mode":3},IDLE,IDLE,IDLE,
+ IDLE,IDLE,IDLE,IDLE,IDLE,IDLE,IDLE,IDLE],
+ "wire":[{"kind":"GRANT","to":1,"client":4,"mode":3,
+ "granted":false,"rejected":false,"agent":null},
+ {"kind":"ACQUIRE","to":0,"client":4,"mode":3,
+ "granted":true,"rejected":false,"agent":null},
+ {"kind":"FREE","to":0,"client":null,"mode":null,
+ "granted":false,"rejected":true,
+ "agent":{"mode":3,"holders":[],"queue":[],"incarnation":0}}]}}
+{"end":"end","answer":0,"records":7,"drains":[{"lock":0,"answer":0,"count":9},REST]}
+"#;
+
+/// The drain shows the GRANT, sends the ACQUIRE back, restores the agent, sends
+/// the ACQUIRE to it, lists 1/0 and releases it; then come the RELEASE, at the
+/// decider and at the agent, and the FREE.
+#[test]
+fn d3_rejected_free() {
+    let calls = [
+        7, 0, 2, 0, 0, 0, 0, //
+        6, 0, 3, 0, 0, 2,
+    ];
+    let bytes = [&TAKE[..], &SHARE, &calls].concat();
+    assert_lines(&bytes, &[TAKE_LINES, SHARE_LINES, EARLY_FREE_LINES]);
+}
+
+const TWO_HOLDERS_LINES: &str = r#"
+{"n":6,"kind":"deliver","lock":0,"index":0,"answer":0,"state":{
+ "decider":{"mode":3,"machine":0,"incarnation":1},
+ "agents":[{"mode":3,"holders":[0],"queue":[],"incarnation":0},null,null,null],
+ "clients":[{"status":"holding","mode":3},IDLE,IDLE,IDLE,
+ {"status":"holding","mode":3},IDLE,IDLE,IDLE,
+ IDLE,IDLE,IDLE,IDLE,IDLE,IDLE,IDLE,IDLE],
+ "wire":[{"kind":"ACQUIRE","to":0,"client":4,"mode":3,
+ "granted":true,"rejected":false,"agent":null}]}}
+{"n":7,"kind":"deliver","lock":0,"index":0,"answer":0,"state":{
+ "decider":{"mode":3,"machine":0,"incarnation":1},
+ "agents":[{"mode":3,"holders":[0,4],"queue":[],"incarnation":1},null,null,null],
+ "clients":[{"status":"holding","mode":3},IDLE,IDLE,IDLE,
+ {"status":"holding","mode":3},IDLE,IDLE,IDLE,
+ IDLE,IDLE,IDLE,IDLE,IDLE,IDLE,IDLE,IDLE],
+ "wire":[]}}
+{"n":8,"kind":"release","lock":0,"machine":1,"task":0,"answer":0,"state":{
+ "decider":{"mode":3,"machine":0,"incarnation":1},
+ "agents":[{"mode":3,"holders":[0,4],"queue":[],"incarnation":1},null,null,null],
+ "clients":[{"status":"holding","mode":3},IDLE,IDLE,IDLE,IDLE,IDLE,IDLE,IDLE,
+ IDLE,IDLE,IDLE,IDLE,IDLE,IDLE,IDLE,IDLE],
+ "wire":[{"kind":"RELEASE","to":null,"client":4,"mode":null,
+ "granted":false,"rejected":false,"agent":null}]}}
+{"end":"end","answer":0,"records":8,"drains":[{"lock":0,"answer":0,"count":4},REST]}
+"#;
+
+/// The drain takes two steps for the RELEASE, one for 0/0 and one for the FREE.
+#[test]
+fn two_holders_and_a_release() {
+    let calls = [
+        6, 0, 3, 0, 0, 0, //
+        6, 0, 3, 0, 0, 0, //
+        7, 0, 2, 0, 0, 1, 0,
+    ];
+    let bytes = [&TAKE[..], &SHARE, &calls].concat();
+    assert_lines(&bytes, &[TAKE_LINES, SHARE_LINES, TWO_HOLDERS_LINES]);
+}
+
+const REJECTED_GRANT_LINES: &str = r#"
+{"n":10,"kind":"deliver","lock":0,"index":2,"answer":0,"state":{
+ "decider":{"mode":3,"machine":0,"incarnation":1},
+ "agents":[null,null,null,null],
+ "clients":[IDLE,IDLE,IDLE,IDLE,{"status":"waiting","mode":3},IDLE,IDLE,IDLE,
+ {"status":"waiting","mode":2},IDLE,IDLE,IDLE,IDLE,IDLE,IDLE,IDLE],
+ "wire":[{"kind":"GRANT","to":1,"client":4,"mode":3,
+ "granted":false,"rejected":false,"agent":null},
+ {"kind":"ACQUIRE","to":0,"client":4,"mode":3,
+ "granted":true,"rejected":false,"agent":null},
+ {"kind":"GRANT","to":0,"client":8,"mode":2,
+ "granted":false,"rejected":true,
+ "agent":{"mode":3,"holders":[],"queue":[],"incarnation":0}}]}}
+{"n":11,"kind":"deliver","lock":0,"index":2,"answer":0,"state":{
+ "decider":{"mode":3,"machine":0,"incarnation":1},
+ "agents":[{"mode":3,"holders":[],"queue":[{"client":8,"mode":2}],"incarnation":0},
+ null,null,null],
+ "clients":[IDLE,IDLE,IDLE,IDLE,{"status":"waiting","mode":3},IDLE,IDLE,IDLE,
+ {"status":"waiting","mode":2},IDLE,IDLE,IDLE,IDLE,IDLE,IDLE,IDLE],
+ "wire":[{"kind":"GRANT","to":1,"client":4,"mode":3,
+ "granted":false,"rejected":false,"agent":null},
+ {"kind":"ACQUIRE","to":0,"client":4,"mode":3,
+ "granted":true,"rejected":false,"agent":null}]}}
+{"end":"end","answer":0,"records":11,"drains":[{"lock":0,"answer":0,"count":9},REST]}
+"#;
+
+/// The drain shows the GRANT, lists 1/0, releases it, brings the RELEASE to the
+/// decider and to the agent, the GRANT for 2/0 to the decider and to machine 2,
+/// releases 2/0, and ends with the FREE.
+#[test]
+fn rejected_grant() {
+    let calls = [
+        8, 0, 1, 0, 0, 2, 0, 2, //
+        6, 0, 3, 0, 0, 2, //
+        6, 0, 3, 0, 0, 2, //
+        7, 0, 2, 0, 0, 0, 0, //
+        6, 0, 3, 0, 0, 2, //
+        6, 0, 3, 0, 0, 2,
+    ];
+    let bytes = [&TAKE[..], &SHARE, &calls].concat();
+    assert_last_lines(&bytes, REJECTED_GRANT_LINES);
+}
+
+const QUEUE_LINES: &str = r#"
+{"n":7,"kind":"deliver","lock":0,"index":0,"answer":0,"state":{
+ "decider":{"mode":2,"machine":0,"incarnation":0},
+ "agents":[{"mode":2,"holders":[0],
+ "queue":[{"client":1,"mode":3},{"client":8,"mode":2}],"incarnation":0},null,null,null],
+ "clients":[{"status":"holding","mode":2},{"status":"waiting","mode":3},IDLE,IDLE,
+ IDLE,IDLE,IDLE,IDLE,{"status":"waiting","mode":2},IDLE,IDLE,IDLE,
+ IDLE,IDLE,IDLE,IDLE],
+ "wire":[]}}
+{"n":8,"kind":"release","lock":0,"machine":0,"task":0,"answer":0,"state":{
+ "decider":{"mode":2,"machine":0,"incarnation":0},
+ "agents":[null,null,null,null],
+ "clients":[IDLE,{"status":"waiting","mode":3},IDLE,IDLE,
+ IDLE,IDLE,IDLE,IDLE,{"status":"waiting","mode":2},IDLE,IDLE,IDLE,
+ IDLE,IDLE,IDLE,IDLE],
+ "wire":[{"kind":"GRANT","to":null,"client":1,"mode":3,
+ "granted":false,"rejected":false,
+ "agent":{"mode":2,"holders":[],"queue":[{"client":8,"mode":2}],"incarnation":0}}]}}
+{"end":"end","answer":0,"records":8,"drains":[{"lock":0,"answer":0,"count":7},REST]}
+"#;
+
+/// 0/1 and 2/0 wait while 0/0 holds; the agent leaves with one of them.
+/// The drain brings each of the two its GRANT in two steps, releases it in one,
+/// and ends with the FREE.
+#[test]
+fn queue_with_two_waiters() {
+    let bytes = [
+        8, 0, 1, 0, 0, 0, 0, 2, //
+        6, 0, 3, 0, 0, 0, //
+        6, 0, 3, 0, 0, 0, //
+        8, 0, 1, 0, 0, 0, 1, 3, //
+        8, 0, 1, 0, 0, 2, 0, 2, //
+        6, 0, 3, 0, 0, 0, //
+        6, 0, 3, 0, 0, 0, //
+        7, 0, 2, 0, 0, 0, 0,
+    ];
+    assert_last_lines(&bytes, QUEUE_LINES);
+}
+
+#[test]
+fn lock_out_of_range_has_no_state() {
+    let bytes = [
+        8, 0, 1, 0, 8, 4, 5, 1, //
+        7, 0, 2, 0, 255, 0, 6, //
+        6, 0, 3, 0, 9, 40,
+    ];
+    let lines = r#"
+{"n":1,"kind":"acquire","lock":8,"machine":4,"task":5,"mode":1,"answer":1,"state":null}
+{"n":2,"kind":"release","lock":255,"machine":0,"task":6,"answer":1,"state":null}
+{"n":3,"kind":"deliver","lock":9,"index":40,"answer":1,"state":null}
+{"end":"end","answer":0,"records":3,"drains":[{"lock":0,"answer":0,"count":0},REST]}
+"#;
+    assert_lines(&bytes, &[lines]);
+}
+
+const REFUSED_LINES: &str = r#"
+{"n":2,"kind":"acquire","lock":7,"machine":0,"task":0,"mode":2,"answer":5,"state":{
+ "decider":{"mode":0,"machine":null,"incarnation":0},
+ "agents":[null,null,null,null],
+ "clients":[{"status":"waiting","mode":3},IDLE,IDLE,IDLE,
+ IDLE,IDLE,IDLE,IDLE,IDLE,IDLE,IDLE,IDLE,IDLE,IDLE,IDLE,IDLE],
+ "wire":[{"kind":"ACQUIRE","to":null,"client":0,"mode":3,
+ "granted":false,"rejected":false,"agent":null}]}}
+{"n":3,"kind":"release","lock":7,"machine":4,"task":9,"answer":2,"state":{
+ "decider":{"mode":0,"machine":null,"incarnation":0},
+ "agents":[null,null,null,null],
+ "clients":[{"status":"waiting","mode":3},IDLE,IDLE,IDLE,
+ IDLE,IDLE,IDLE,IDLE,IDLE,IDLE,IDLE,IDLE,IDLE,IDLE,IDLE,IDLE],
+ "wire":[{"kind":"ACQUIRE","to":null,"client":0,"mode":3,
+ "granted":false,"rejected":false,"agent":null}]}}
+{"end":"end","answer":0,"records":3,"drains":[
+ {"lock":0,"answer":0,"count":0},{"lock":1,"answer":0,"count":0},
+ {"lock":2,"answer":0,"count":0},{"lock":3,"answer":0,"count":0},
+ {"lock":4,"answer":0,"count":0},{"lock":5,"answer":0,"count":0},
+ {"lock":6,"answer":0,"count":0},{"lock":7,"answer":0,"count":4}]}
+"#;
+
+#[test]
+fn refused_step_shows_the_state_as_it_was() {
+    let bytes = [
+        8, 0, 1, 0, 7, 0, 0, 3, //
+        8, 0, 1, 0, 7, 0, 0, 2, //
+        7, 0, 2, 0, 7, 4, 9,
+    ];
+    assert_last_lines(&bytes, REFUSED_LINES);
+}
+
+/// 0/0 holds after the three records before the bad one, so the drain has to
+/// release it and to deliver the FREE; the record behind is not run.
+#[test]
+fn bad_record_ends_the_lines() {
+    let bad = [6, 0, 4, 0, 0, 0];
+    let behind = [7, 0, 2, 0, 0, 0, 0];
+    let end = r#"
+{"end":"bad record","answer":12,"records":4,"drains":[{"lock":0,"answer":0,"count":2},REST]}
+"#;
+    let bytes = [&TAKE[..], &bad, &behind].concat();
+    assert_lines(&bytes, &[TAKE_LINES, end]);
+}
+
+const TOO_LONG: &str = r#"
+{"end":"too long","answer":13,"records":0,"drains":[{"lock":0,"answer":0,"count":0},REST]}
+"#;
+
+/// 8,192 acquires, of 8 bytes each.
+fn overlong() -> Vec<u8> {
+    [8, 0, 1, 0, 0, 0, 0, 3].repeat(8_192)
+}
+
+#[test]
+fn overlong_transcript_is_not_run() {
+    let bytes = overlong();
+    assert_eq!(bytes.len(), 65_536);
+    assert_lines(&bytes, &[TOO_LONG]);
+}
+
+#[test]
+fn longest_transcript_is_run() {
+    let mut bytes = overlong();
+    bytes.truncate(65_528);
+    bytes.extend([7, 0, 2, 0, 0, 0, 0]);
+    assert_eq!(bytes.len(), 65_535);
+    let end = r#"
+{"end":"end","answer":0,"records":8192,"drains":[{"lock":0,"answer":0,"count":4},REST]}
+"#;
+    assert_last_lines(&bytes, end);
+    assert_eq!(inspected(&bytes).lines().count(), 8_193);
+}
+
+#[test]
+fn empty_transcript() {
+    let end = r#"
+{"end":"end","answer":0,"records":0,"drains":[{"lock":0,"answer":0,"count":0},REST]}
+"#;
+    assert_lines(&[], &[end]);
+}
+
+/// What the program writes for a transcript on its standard input.
+fn written_by_program(bytes: &[u8]) -> String {
+    let mut child = Command::new(env!("CARGO_BIN_EXE_reference"))
+        .arg("inspect")
+        .stdin(Stdio::piped())
+        .stdout(Stdio::piped())
+        .spawn()
+        .expect("the program starts");
+    // Dropped at the end of the statement, it closes the program's input.
+    let written = child.stdin.take().expect("a pipe").write_all(bytes);
+    written.expect("the program reads");
+    let output = child.wait_with_output().expect("the program ends");
+    assert!(output.status.success());
+    String::from_utf8(output.stdout).expect("JSON is text")
+}
+
+#[test]
+fn program_reads_standard_input() {
+    let bytes = [&TAKE[..], &EXAMPLE_TAIL].concat();
+    let expected = unfolded(&[TAKE_LINES, EXAMPLE_TAIL_LINES]);
+    assert_eq!(written_by_program(&bytes), expected);
+    assert_eq!(written_by_program(&overlong()), unfolded(&[TOO_LONG]));
+}
