@@ -3,7 +3,6 @@ use crate::line::MOST;
 use crate::line::numbers_in;
 use crate::line::says;
 use crate::print;
-use crate::same;
 use model::Cluster;
 use model::LockId;
 use model::MachineId;

@@ -6,7 +6,6 @@ mod line;
 mod locks;
 mod packets;
 mod print;
-mod same;
 mod script;
 mod show;
 

@@ -7,7 +7,6 @@ use crate::print;
 use crate::print::client;
 use crate::print::number;
 use crate::print::text;
-use crate::same;
 use model::Agent;
 use model::AgentSlot;
 use model::CLIENTS;
