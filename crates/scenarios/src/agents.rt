@@ -1,7 +1,6 @@
 // The agent that the script makes: `agent ..`.
-use crate::line::MOST;
 use crate::line::Numbers;
-use crate::line::says;
+use crate::line::place;
 use crate::print;
 use model::Agent;
 use model::AgentSlot;
@@ -83,71 +82,42 @@ fn with_holder(mut a: Agent, c: u8) -> Agent {
     a
 }
 
-enum Part {
-    New,
-    Absent,
-    Holder,
-    Waiter,
-    Length,
-    Incarnation,
-    Unknown,
-}
-
-fn part_named(s: &[u8], n: usize) -> Part {
-    if says(s, n, b"new", 1) {
-        return Part::New;
-    }
-    if says(s, n, b"absent", 1) {
-        return Part::Absent;
-    }
-    if says(s, n, b"holder", 1) {
-        return Part::Holder;
-    }
-    if says(s, n, b"waiter", 3) {
-        return Part::Waiter;
-    }
-    if says(s, n, b"length", 1) {
-        return Part::Length;
-    }
-    if says(s, n, b"incarnation", 1) {
-        return Part::Incarnation;
-    }
-    Part::Unknown
-}
-
 fn unknown(a: Agent, s: &[u8]) -> Agent {
     print::not_understood(s);
     a
 }
 
-fn written(a: Agent, s: &[u8], p: Part, v: [u8; MOST]) -> Agent {
-    match p {
-        Part::New => new_agent(v[0]),
-        Part::Absent => new_agent(v[0]),
-        Part::Holder => with_holder(a, v[0]),
-        Part::Waiter => with_waiter(a, v[0], v[1], v[2]),
-        Part::Length => with_length(a, v[0]),
-        Part::Incarnation => with_incarnation(a, v[0]),
-        Part::Unknown => unknown(a, s),
+fn written(a: Agent, s: &[u8], k: usize, n: Numbers) -> Agent {
+    match k {
+        0 => new_agent(n.first),
+        1 => new_agent(n.first),
+        2 => with_holder(a, n.first),
+        3 => with_waiter(a, n.first, n.second, n.third),
+        4 => with_length(a, n.first),
+        5 => with_incarnation(a, n.first),
+        _ => unknown(a, s),
     }
 }
 
 // Whether the agent is there.
-fn present(p: Part, before: bool) -> bool {
-    match p {
-        Part::New => true,
-        Part::Absent => false,
+fn present(k: usize, before: bool) -> bool {
+    match k {
+        0 => true,
+        1 => false,
         _ => before,
     }
 }
 
-// The slot after the command s, whose numbers are n.
+// The slot after the command s, whose numbers are n. The words' places are the cases of `written`.
 pub fn made(x: AgentSlot, s: &[u8], n: Numbers) -> AgentSlot {
-    let p = part_named(s, n.count);
-    let v = n.values;
-    let agent = written(x.agent, s, p, v);
+    let k = place(
+        s,
+        n.count,
+        b"1new 1absent 1holder 3waiter 1length 1incarnation",
+    );
+    let agent = written(x.agent, s, k, n);
     AgentSlot {
-        present: present(p, x.present),
+        present: present(k, x.present),
         agent,
     }
 }

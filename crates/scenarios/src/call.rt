@@ -1,7 +1,7 @@
 // A call, printed with its answer. After a refusal the line says whether the whole cluster is as it was.
-use crate::line::MOST;
+use crate::line::Numbers;
 use crate::line::numbers_in;
-use crate::line::says;
+use crate::line::place;
 use crate::print;
 use model::Cluster;
 use model::LockId;
@@ -53,57 +53,35 @@ fn unknown(cluster: Cluster) -> Done {
     }
 }
 
-fn acquire(x: Cluster, v: [u8; MOST]) -> Done {
-    of_call(engine::acquire(x, LockId(v[0]), MachineId(v[1]), TaskId(v[2]), v[3]))
+fn acquire(x: Cluster, n: Numbers) -> Done {
+    of_call(engine::acquire(
+        x,
+        LockId(n.first),
+        MachineId(n.second),
+        TaskId(n.third),
+        n.fourth,
+    ))
 }
 
-fn release(x: Cluster, v: [u8; MOST]) -> Done {
-    of_call(engine::release(x, LockId(v[0]), MachineId(v[1]), TaskId(v[2])))
+fn release(x: Cluster, n: Numbers) -> Done {
+    of_call(engine::release(x, LockId(n.first), MachineId(n.second), TaskId(n.third)))
 }
 
-fn deliver(x: Cluster, v: [u8; MOST]) -> Done {
-    of_call(engine::deliver(x, LockId(v[0]), v[1]))
+fn deliver(x: Cluster, n: Numbers) -> Done {
+    of_call(engine::deliver(x, LockId(n.first), n.second))
 }
 
-enum Kind {
-    Acquire,
-    Release,
-    Deliver,
-    Drain,
-    Unknown,
-}
-
-fn kind_named(s: &[u8], n: usize) -> Kind {
-    if says(s, n, b"acquire", 4) {
-        return Kind::Acquire;
-    }
-    if says(s, n, b"release", 3) {
-        return Kind::Release;
-    }
-    if says(s, n, b"deliver", 2) {
-        return Kind::Deliver;
-    }
-    if says(s, n, b"drain", 1) {
-        return Kind::Drain;
-    }
-    Kind::Unknown
-}
-
-fn performed(x: Cluster, k: Kind, v: [u8; MOST]) -> Done {
-    match k {
-        Kind::Acquire => acquire(x, v),
-        Kind::Release => release(x, v),
-        Kind::Deliver => deliver(x, v),
-        Kind::Drain => drained(x, v[0]),
-        Kind::Unknown => unknown(x),
-    }
-}
-
-// The call that the text says.
+// The call that the text says. The words' places are the cases.
 fn read(x: Cluster, s: &[u8]) -> Done {
     let n = numbers_in(s);
-    let v = n.values;
-    performed(x, kind_named(s, n.count), v)
+    let k = place(s, n.count, b"4acquire 3release 2deliver 1drain");
+    match k {
+        0 => acquire(x, n),
+        1 => release(x, n),
+        2 => deliver(x, n),
+        3 => drained(x, n.first),
+        _ => unknown(x),
+    }
 }
 
 fn compared(x: Cluster, y: Cluster) {

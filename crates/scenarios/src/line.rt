@@ -3,14 +3,24 @@ ghost use Prim.Native.Nat.{_≤_, _<_};
 ghost use lib.ListN.{length};
 
 // As many numbers as a command has at most.
-pub const MOST: usize = 4;
+const MOST: usize = 4;
 
 // What count says of a text with more numbers, or with one above 255: no command has so many.
 const TOO_MANY: usize = 9;
 
+// How many numbers a text has, and the first of them; 0 for one that it does not have.
 pub struct Numbers {
-    pub values: [u8; MOST],
     pub count: usize,
+    pub first: u8,
+    pub second: u8,
+    pub third: u8,
+    pub fourth: u8,
+}
+
+// The numbers read so far; whether the last byte was a digit.
+struct Digits {
+    values: [u8; MOST],
+    count: usize,
     open: bool,
 }
 
@@ -68,12 +78,40 @@ pub fn starts(s: &[u8], word: &[u8]) -> bool {
     s[word.len()] == b' '
 }
 
-// The same, and the text has so many numbers.
-pub fn says(s: &[u8], count: usize, word: &[u8], wanted: usize) -> bool {
-    starts(s, word) && count == wanted
+// The entry is how many numbers the text has, or a star for any, and its first word.
+fn fits(s: &[u8], count: usize, entry: &[u8]) -> bool {
+    if entry.len() == 0 {
+        return false;
+    }
+    let d = entry[0];
+    if d != b'*' {
+        if count != digit(d) {
+            return false;
+        }
+    }
+    starts(s, &entry[1..])
 }
 
-fn first_digit(mut n: Numbers, d: u8) -> Numbers {
+fn digit(d: u8) -> usize {
+    if d < b'0' { 0 } else { (d - b'0') as usize }
+}
+
+// The place in the list, counted from 0, of the entry that the text fits; where there is none, as many as there are.
+pub fn place(s: &[u8], count: usize, list: &[u8]) -> usize {
+    let mut i: usize = 0;
+    let mut k: usize = 0;
+    while i < list.len() {
+        let j = find(list, i, b' ', b' ');
+        if fits(s, count, &list[i..j]) {
+            return k;
+        }
+        i = j + 1;
+        k += 1;
+    }
+    k
+}
+
+fn first_digit(mut n: Digits, d: u8) -> Digits {
     let k = n.count;
     if MOST <= k {
         n.count = TOO_MANY;
@@ -89,7 +127,7 @@ fn times_ten(v: u8, d: u8) -> u16 {
     v as u16 * 10 + d as u16
 }
 
-fn next_digit(mut n: Numbers, d: u8) -> Numbers {
+fn next_digit(mut n: Digits, d: u8) -> Digits {
     let k = n.count;
     if k == 0 {
         return n;
@@ -106,7 +144,7 @@ fn next_digit(mut n: Numbers, d: u8) -> Numbers {
     n
 }
 
-fn with_byte(mut n: Numbers, b: u8) -> Numbers {
+fn with_byte(mut n: Digits, b: u8) -> Digits {
     if b < b'0' {
         n.open = false;
         return n;
@@ -122,9 +160,19 @@ fn with_byte(mut n: Numbers, b: u8) -> Numbers {
     }
 }
 
+fn first_four(v: [u8; MOST], count: usize) -> Numbers {
+    Numbers {
+        count,
+        first: v[0],
+        second: v[1],
+        third: v[2],
+        fourth: v[3],
+    }
+}
+
 // The numbers of the text, whatever stands between them.
 pub fn numbers_in(s: &[u8]) -> Numbers {
-    let mut n = Numbers {
+    let mut n = Digits {
         values: [0; MOST],
         count: 0,
         open: false,
@@ -134,5 +182,6 @@ pub fn numbers_in(s: &[u8]) -> Numbers {
         n = with_byte(n, s[i]);
         i += 1;
     }
-    n
+    let v = n.values;
+    first_four(v, n.count)
 }

@@ -1,7 +1,7 @@
 // The state that the script makes of a lock: `lock ..`.
 use crate::agents;
 use crate::line::Numbers;
-use crate::line::says;
+use crate::line::place;
 use crate::print;
 use model::AgentSlot;
 use model::CLIENTS;
@@ -50,16 +50,24 @@ fn with_agent(mut s: LockState, k: u8, x: AgentSlot) -> LockState {
     s
 }
 
-fn with_holder(mut s: LockState, c: u8, m: u8) -> LockState {
+fn with_status(mut s: LockState, c: u8, status: Status) -> LockState {
     if CLIENTS as u8 <= c {
         print::not_understood(b"no such client");
         return s;
     }
-    let mode = agents::mode(m);
-    let status = Status::Holding(mode);
     let y = ClientState { status };
     s.clients[c as usize] = y;
     s
+}
+
+fn with_holder(s: LockState, c: u8, m: u8) -> LockState {
+    let mode = agents::mode(m);
+    with_status(s, c, Status::Holding(mode))
+}
+
+fn with_waiter(s: LockState, c: u8, m: u8) -> LockState {
+    let mode = agents::mode(m);
+    with_status(s, c, Status::Waiting(mode))
 }
 
 fn with_packet(mut s: LockState, i: u8, p: Packet) -> LockState {
@@ -91,68 +99,29 @@ fn filled(mut s: LockState, p: Packet) -> LockState {
     s
 }
 
-enum Part {
-    Owned,
-    Free,
-    Incarnation,
-    Agent,
-    Holds,
-    Packet,
-    Length,
-    Filled,
-    Unknown,
-}
-
-fn part_named(t: &[u8], n: usize) -> Part {
-    if says(t, n, b"owned", 3) {
-        return Part::Owned;
-    }
-    if says(t, n, b"free", 1) {
-        return Part::Free;
-    }
-    if says(t, n, b"incarnation", 2) {
-        return Part::Incarnation;
-    }
-    if says(t, n, b"agent", 2) {
-        return Part::Agent;
-    }
-    if says(t, n, b"holds", 3) {
-        return Part::Holds;
-    }
-    wire_part(t, n)
-}
-
-fn wire_part(t: &[u8], n: usize) -> Part {
-    if says(t, n, b"packet", 2) {
-        return Part::Packet;
-    }
-    if says(t, n, b"length", 2) {
-        return Part::Length;
-    }
-    if says(t, n, b"filled", 1) {
-        return Part::Filled;
-    }
-    Part::Unknown
-}
-
 fn unknown(s: LockState, t: &[u8]) -> LockState {
     print::not_understood(t);
     s
 }
 
-// The state after the command t, whose numbers are n, the lock's first. The slot x and the packet p are what it puts there.
+// The state after the command t, whose numbers are n, the lock's first. The slot x and the packet p are what it puts there. The words' places are the
+// cases.
 pub fn made(s: LockState, x: AgentSlot, p: Packet, t: &[u8], n: Numbers) -> LockState {
-    let q = part_named(t, n.count);
-    let v = n.values;
-    match q {
-        Part::Owned => owned(s, v[1], v[2]),
-        Part::Free => with_owner(s, Owner::Free),
-        Part::Incarnation => with_incarnation(s, v[1]),
-        Part::Agent => with_agent(s, v[1], x),
-        Part::Holds => with_holder(s, v[1], v[2]),
-        Part::Packet => with_packet(s, v[1], p),
-        Part::Length => with_length(s, v[1]),
-        Part::Filled => filled(s, p),
-        Part::Unknown => unknown(s, t),
+    let k = place(
+        t,
+        n.count,
+        b"3owned 1free 2incarnation 2agent 3holds 3waits 2packet 2length 1filled",
+    );
+    match k {
+        0 => owned(s, n.second, n.third),
+        1 => with_owner(s, Owner::Free),
+        2 => with_incarnation(s, n.second),
+        3 => with_agent(s, n.second, x),
+        4 => with_holder(s, n.second, n.third),
+        5 => with_waiter(s, n.second, n.third),
+        6 => with_packet(s, n.second, p),
+        7 => with_length(s, n.second),
+        8 => filled(s, p),
+        _ => unknown(s, t),
     }
 }

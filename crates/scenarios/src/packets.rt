@@ -1,8 +1,7 @@
 // The packet that the script makes: `packet ..`.
 use crate::agents;
-use crate::line::MOST;
 use crate::line::Numbers;
-use crate::line::says;
+use crate::line::place;
 use crate::print;
 use model::Address;
 use model::AgentSlot;
@@ -70,71 +69,27 @@ fn carrying(mut p: Packet, x: AgentSlot) -> Packet {
     p
 }
 
-enum Part {
-    Acquire,
-    Marked,
-    Grant,
-    Release,
-    Free,
-    To,
-    Rejected,
-    Carries,
-    Unknown,
-}
-
-fn message(s: &[u8], n: usize) -> Part {
-    if says(s, n, b"ACQUIRE", 2) {
-        return Part::Acquire;
-    }
-    if says(s, n, b"MARKED", 2) {
-        return Part::Marked;
-    }
-    if says(s, n, b"GRANT", 2) {
-        return Part::Grant;
-    }
-    if says(s, n, b"RELEASE", 1) {
-        return Part::Release;
-    }
-    if says(s, n, b"FREE", 0) {
-        return Part::Free;
-    }
-    part_named(s, n)
-}
-
-fn part_named(s: &[u8], n: usize) -> Part {
-    if says(s, n, b"to", 1) {
-        return Part::To;
-    }
-    if says(s, n, b"rejected", 0) {
-        return Part::Rejected;
-    }
-    if says(s, n, b"carries", 0) {
-        return Part::Carries;
-    }
-    Part::Unknown
-}
-
 fn unknown(p: Packet, s: &[u8]) -> Packet {
     print::not_understood(s);
     p
 }
 
-fn written(p: Packet, x: AgentSlot, s: &[u8], q: Part, v: [u8; MOST]) -> Packet {
-    match q {
-        Part::Acquire => acquire(v[0], v[1], false),
-        Part::Marked => acquire(v[0], v[1], true),
-        Part::Grant => grant(v[0], v[1]),
-        Part::Release => release(v[0]),
-        Part::Free => blank(),
-        Part::To => addressed(p, v[0]),
-        Part::Rejected => rejected(p),
-        Part::Carries => carrying(p, x),
-        Part::Unknown => unknown(p, s),
-    }
-}
-
-// The packet after the command s, whose numbers are n. The slot x is what it carries when the command says so.
+// The packet after the command s, whose numbers are n. The slot x is what it carries when the command says so. The words' places are the cases.
 pub fn made(p: Packet, x: AgentSlot, s: &[u8], n: Numbers) -> Packet {
-    let v = n.values;
-    written(p, x, s, message(s, n.count), v)
+    let k = place(
+        s,
+        n.count,
+        b"2ACQUIRE 2MARKED 2GRANT 1RELEASE 0FREE 1to 0rejected 0carries",
+    );
+    match k {
+        0 => acquire(n.first, n.second, false),
+        1 => acquire(n.first, n.second, true),
+        2 => grant(n.first, n.second),
+        3 => release(n.first),
+        4 => blank(),
+        5 => addressed(p, n.first),
+        6 => rejected(p),
+        7 => carrying(p, x),
+        _ => unknown(p, s),
+    }
 }

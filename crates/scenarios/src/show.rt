@@ -1,8 +1,7 @@
-// What lock 0 has, a line for each thing asked, and whether the cluster is fresh: `show ..`.
+// What lock 0 has, a line for each thing asked, and whether the cluster is fresh, or as the one that was kept: `show ..`.
 ghost use Prim.Native.Nat.{_<_};
 ghost use Rattle.model.specs.States.{clients};
 use crate::line;
-use crate::line::says;
 use crate::print;
 use crate::print::client;
 use crate::print::number;
@@ -155,57 +154,35 @@ fn machine(agents: [AgentSlot; MACHINES], k: u8) {
     text(b"\n");
 }
 
-enum Part {
-    Client,
-    Decider,
-    Machine,
-    Wire,
-    Unknown,
-}
-
-fn part_named(t: &[u8], n: usize) -> Part {
-    if says(t, n, b"client", 1) {
-        return Part::Client;
-    }
-    if says(t, n, b"decider", 0) {
-        return Part::Decider;
-    }
-    if says(t, n, b"machine", 1) {
-        return Part::Machine;
-    }
-    if says(t, n, b"wire", 0) {
-        return Part::Wire;
-    }
-    Part::Unknown
-}
-
-fn lock(s: LockState, t: &[u8], p: Part, n: u8) {
+fn lock(s: LockState, t: &[u8], k: usize, n: u8) {
     let c = s.clients;
     let a = s.agents;
-    match p {
-        Part::Client => status(c, n),
-        Part::Decider => decider(s.decider),
-        Part::Machine => machine(a, n),
-        Part::Wire => wire(s.wire),
-        Part::Unknown => print::not_understood(t),
+    match k {
+        2 => status(c, n),
+        3 => decider(s.decider),
+        4 => machine(a, n),
+        5 => wire(s.wire),
+        _ => print::not_understood(t),
     }
 }
 
-// Whether the cluster is fresh in all its parts.
-fn fresh(x: Cluster) {
-    if same::clusters(x, engine::fresh()) {
-        text(b": fresh\n");
+// Whether the clusters are the same in all their parts.
+fn compared(x: Cluster, y: Cluster, word: &[u8]) {
+    if same::clusters(x, y) {
+        text(b": ");
     } else {
-        text(b": not fresh\n");
+        text(b": not ");
     }
+    print::line(word);
 }
 
-pub fn shown(x: Cluster, t: &[u8]) {
+// The cluster y is the one that was kept. The words' places are the cases here and in `lock`.
+pub fn shown(x: Cluster, y: Cluster, t: &[u8]) {
     let n = line::numbers_in(t);
-    if says(t, n.count, b"fresh", 0) {
-        fresh(x);
-        return;
+    let k = line::place(t, n.count, b"0fresh 0kept 1client 0decider 1machine 0wire");
+    match k {
+        0 => compared(x, engine::fresh(), b"fresh"),
+        1 => compared(x, y, b"as kept"),
+        _ => lock(x.locks[0], t, k, n.first),
     }
-    let s = x.locks[0];
-    lock(s, t, part_named(t, n.count), n.values[0]);
 }
