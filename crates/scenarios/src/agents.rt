@@ -1,6 +1,6 @@
 // The agent that the script makes: `agent ..`.
 use crate::line::Numbers;
-use crate::line::place;
+use crate::line::word;
 use crate::print;
 use model::Agent;
 use model::AgentSlot;
@@ -61,33 +61,30 @@ fn with_incarnation(mut a: Agent, n: u8) -> Agent {
     a
 }
 
-fn with_waiter(mut a: Agent, i: u8, c: u8, m: u8) -> Agent {
-    if QUEUE_CAPACITY as u8 <= i {
-        print::not_understood(b"no such slot of a queue");
+fn with_waiter(mut a: Agent, j: u8, c: u8, m: u8) -> Agent {
+    let i = j as usize;
+    if QUEUE_CAPACITY <= i {
+        print::out_of_range();
         return a;
     }
     let w = waiter(c, m);
     let mut q = a.queue;
-    q.slots[i as usize] = w;
+    q.slots[i] = w;
     a.queue = q;
     a
 }
 
 fn with_holder(mut a: Agent, c: u8) -> Agent {
-    if CLIENTS as u8 <= c {
-        print::not_understood(b"no such client");
+    let i = c as usize;
+    if CLIENTS <= i {
+        print::out_of_range();
         return a;
     }
-    a.holders[c as usize] = true;
+    a.holders[i] = true;
     a
 }
 
-fn unknown(a: Agent, s: &[u8]) -> Agent {
-    print::not_understood(s);
-    a
-}
-
-fn written(a: Agent, s: &[u8], k: usize, n: Numbers) -> Agent {
+fn written(a: Agent, k: usize, n: Numbers) -> Agent {
     match k {
         0 => new_agent(n.first),
         1 => new_agent(n.first),
@@ -95,7 +92,7 @@ fn written(a: Agent, s: &[u8], k: usize, n: Numbers) -> Agent {
         3 => with_waiter(a, n.first, n.second, n.third),
         4 => with_length(a, n.first),
         5 => with_incarnation(a, n.first),
-        _ => unknown(a, s),
+        _ => a,
     }
 }
 
@@ -110,12 +107,12 @@ fn present(k: usize, before: bool) -> bool {
 
 // The slot after the command s, whose numbers are n. The words' places are the cases of `written`.
 pub fn made(x: AgentSlot, s: &[u8], n: Numbers) -> AgentSlot {
-    let k = place(
+    let k = word(
         s,
         n.count,
         b"1new 1absent 1holder 3waiter 1length 1incarnation",
     );
-    let agent = written(x.agent, s, k, n);
+    let agent = written(x.agent, k, n);
     AgentSlot {
         present: present(k, x.present),
         agent,

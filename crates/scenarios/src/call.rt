@@ -84,14 +84,6 @@ fn read(x: Cluster, s: &[u8]) -> Done {
     }
 }
 
-fn compared(x: Cluster, y: Cluster) {
-    if same::clusters(x, y) {
-        print::text(b" unchanged");
-    } else {
-        print::text(b" CHANGED");
-    }
-}
-
 fn answered(x: Cluster, d: Done) {
     print::number(d.answer);
     if d.drained {
@@ -99,22 +91,27 @@ fn answered(x: Cluster, d: Done) {
         print::long(d.steps);
     }
     if d.answer != 0 {
-        compared(x, d.cluster);
+        print::either(same::clusters(x, d.cluster), b" unchanged", b" CHANGED");
     }
 }
 
-// The text and the answer on a line.
-pub fn called(x: Cluster, s: &[u8]) -> Cluster {
+// The call that s says: prints a and b, the answer, and c.
+fn told(x: Cluster, s: &[u8], a: &[u8], b: &[u8], c: &[u8]) -> Cluster {
     let d = read(x, s);
     if d.known {
-        print::text(s);
-        print::text(b": ");
+        print::text(a);
+        print::text(b);
         answered(x, d);
-        print::text(b"\n");
+        print::text(c);
     } else {
         print::not_understood(s);
     }
     d.cluster
+}
+
+// The text and the answer on a line.
+pub fn called(x: Cluster, s: &[u8]) -> Cluster {
+    told(x, s, s, b": ", b"\n")
 }
 
 // The same, where the cluster that the call gives is not kept.
@@ -123,21 +120,10 @@ pub fn tried(x: Cluster, s: &[u8]) {
 }
 
 // The answer alone, behind a word.
-fn beside(x: Cluster, word: &[u8], s: &[u8]) {
-    let d = read(x, s);
-    if d.known {
-        print::text(word);
-        answered(x, d);
-    } else {
-        print::not_understood(s);
-    }
-}
-
 pub fn inside(x: Cluster, s: &[u8]) {
-    beside(x, b": inside ", s);
+    told(x, s, b": ", b"inside ", b"");
 }
 
 pub fn outside(x: Cluster, s: &[u8]) {
-    beside(x, b", outside ", s);
-    print::text(b"\n");
+    told(x, s, b", ", b"outside ", b"\n");
 }

@@ -1,9 +1,13 @@
 // The text of a command: words, and the numbers between them.
 ghost use Prim.Native.Nat.{_≤_, _<_};
 ghost use lib.ListN.{length};
+use crate::print;
 
 // As many numbers as a command has at most.
 const MOST: usize = 4;
+
+// More than the places of any list.
+const NOWHERE: usize = 99;
 
 // What count says of a text with more numbers, or with one above 255: no command has so many.
 const TOO_MANY: usize = 9;
@@ -96,7 +100,7 @@ fn digit(d: u8) -> usize {
     if d < b'0' { 0 } else { (d - b'0') as usize }
 }
 
-// The place in the list, counted from 0, of the entry that the text fits; where there is none, as many as there are.
+// The place in the list, counted from 0, of the entry that the text fits, or NOWHERE.
 pub fn place(s: &[u8], count: usize, list: &[u8]) -> usize {
     let mut i: usize = 0;
     let mut k: usize = 0;
@@ -107,6 +111,15 @@ pub fn place(s: &[u8], count: usize, list: &[u8]) -> usize {
         }
         i = j + 1;
         k += 1;
+    }
+    NOWHERE
+}
+
+// The same, where a text that fits none is no command.
+pub fn word(s: &[u8], count: usize, list: &[u8]) -> usize {
+    let k = place(s, count, list);
+    if k == NOWHERE {
+        print::not_understood(s);
     }
     k
 }

@@ -1,7 +1,7 @@
 // The state that the script makes of a lock: `lock ..`.
 use crate::agents;
 use crate::line::Numbers;
-use crate::line::place;
+use crate::line::word;
 use crate::print;
 use model::AgentSlot;
 use model::CLIENTS;
@@ -42,21 +42,23 @@ fn with_incarnation(mut s: LockState, n: u8) -> LockState {
 }
 
 fn with_agent(mut s: LockState, k: u8, x: AgentSlot) -> LockState {
-    if MACHINES as u8 <= k {
-        print::not_understood(b"no such machine");
+    let i = k as usize;
+    if MACHINES <= i {
+        print::out_of_range();
         return s;
     }
-    s.agents[k as usize] = x;
+    s.agents[i] = x;
     s
 }
 
 fn with_status(mut s: LockState, c: u8, status: Status) -> LockState {
-    if CLIENTS as u8 <= c {
-        print::not_understood(b"no such client");
+    let i = c as usize;
+    if CLIENTS <= i {
+        print::out_of_range();
         return s;
     }
     let y = ClientState { status };
-    s.clients[c as usize] = y;
+    s.clients[i] = y;
     s
 }
 
@@ -70,13 +72,14 @@ fn with_waiter(s: LockState, c: u8, m: u8) -> LockState {
     with_status(s, c, Status::Waiting(mode))
 }
 
-fn with_packet(mut s: LockState, i: u8, p: Packet) -> LockState {
-    if WIRE_CAPACITY as u8 <= i {
-        print::not_understood(b"no such slot of a wire");
+fn with_packet(mut s: LockState, j: u8, p: Packet) -> LockState {
+    let i = j as usize;
+    if WIRE_CAPACITY <= i {
+        print::out_of_range();
         return s;
     }
     let mut w = s.wire;
-    w.slots[i as usize] = p;
+    w.slots[i] = p;
     s.wire = w;
     s
 }
@@ -99,15 +102,10 @@ fn filled(mut s: LockState, p: Packet) -> LockState {
     s
 }
 
-fn unknown(s: LockState, t: &[u8]) -> LockState {
-    print::not_understood(t);
-    s
-}
-
 // The state after the command t, whose numbers are n, the lock's first. The slot x and the packet p are what it puts there. The words' places are the
 // cases.
 pub fn made(s: LockState, x: AgentSlot, p: Packet, t: &[u8], n: Numbers) -> LockState {
-    let k = place(
+    let k = word(
         t,
         n.count,
         b"3owned 1free 2incarnation 2agent 3holds 3waits 2packet 2length 1filled",
@@ -122,6 +120,6 @@ pub fn made(s: LockState, x: AgentSlot, p: Packet, t: &[u8], n: Numbers) -> Lock
         6 => with_packet(s, n.second, p),
         7 => with_length(s, n.second),
         8 => filled(s, p),
-        _ => unknown(s, t),
+        _ => s,
     }
 }

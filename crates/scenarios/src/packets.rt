@@ -1,8 +1,7 @@
 // The packet that the script makes: `packet ..`.
 use crate::agents;
 use crate::line::Numbers;
-use crate::line::place;
-use crate::print;
+use crate::line::word;
 use model::Address;
 use model::AgentSlot;
 use model::ClientId;
@@ -69,14 +68,9 @@ fn carrying(mut p: Packet, x: AgentSlot) -> Packet {
     p
 }
 
-fn unknown(p: Packet, s: &[u8]) -> Packet {
-    print::not_understood(s);
-    p
-}
-
 // The packet after the command s, whose numbers are n. The slot x is what it carries when the command says so. The words' places are the cases.
 pub fn made(p: Packet, x: AgentSlot, s: &[u8], n: Numbers) -> Packet {
-    let k = place(
+    let k = word(
         s,
         n.count,
         b"2ACQUIRE 2MARKED 2GRANT 1RELEASE 0FREE 1to 0rejected 0carries",
@@ -90,6 +84,6 @@ pub fn made(p: Packet, x: AgentSlot, s: &[u8], n: Numbers) -> Packet {
         5 => addressed(p, n.first),
         6 => rejected(p),
         7 => carrying(p, x),
-        _ => unknown(p, s),
+        _ => p,
     }
 }

@@ -1,5 +1,6 @@
 // Standard output, piece by piece.
 use libc::STDOUT_FILENO;
+use model::TASKS;
 
 pub fn text(s: &[u8]) {
     io::write_all(STDOUT_FILENO, s);
@@ -16,15 +17,28 @@ pub fn number(n: u8) {
 }
 
 // A client is written machine/task.
-pub fn client(k: u8, t: u8) {
-    number(k);
+pub fn client(c: u8) {
+    number(c / TASKS as u8);
     text(b"/");
-    number(t);
+    number(c % TASKS as u8);
+}
+
+pub fn either(yes: bool, a: &[u8], b: &[u8]) {
+    if yes {
+        text(a);
+    } else {
+        text(b);
+    }
 }
 
 pub fn line(s: &[u8]) {
     text(s);
     text(b"\n");
+}
+
+// A number of a command is too large for what it counts.
+pub fn out_of_range() {
+    not_understood(b"a number out of range");
 }
 
 // What the script says is no command: the line shows in the output, where nothing expects it.

@@ -34,15 +34,15 @@ fn nothing() -> Made {
 }
 
 fn with_lock(mut m: Made, s: &[u8], n: Numbers) -> Made {
-    let l = n.first;
-    if LOCKS as u8 <= l {
+    let l = n.first as usize;
+    if LOCKS <= l {
         print::not_understood(s);
         return m;
     }
     let mut x = m.cluster;
-    let state = x.locks[l as usize];
+    let state = x.locks[l];
     let made = locks::made(state, m.slot, m.packet, s, n);
-    x.locks[l as usize] = made;
+    x.locks[l] = made;
     m.cluster = x;
     m
 }

@@ -19,7 +19,6 @@ use model::Owner;
 use model::QUEUE_CAPACITY;
 use model::Queue;
 use model::Status;
-use model::TASKS;
 use model::Waiter;
 use model::Wire;
 
@@ -33,10 +32,6 @@ fn mode(m: Mode) -> u8 {
 fn labelled(label: &[u8], n: u8) {
     text(label);
     number(n);
-}
-
-fn client_numbered(c: u8) {
-    client(c / TASKS as u8, c % TASKS as u8);
 }
 
 fn wire(w: Wire) {
@@ -72,12 +67,12 @@ fn status_words(s: Status) {
 
 fn status(clients: [ClientState; CLIENTS], c: u8) {
     if CLIENTS as u8 <= c {
-        print::not_understood(b"no such client");
+        print::out_of_range();
         return;
     }
     let y = clients[c as usize];
     let z = y.status;
-    client_numbered(c);
+    client(c);
     status_words(z);
     text(b"\n");
 }
@@ -87,7 +82,7 @@ fn listed(set: [bool; CLIENTS], c: u8)
 {
     if set[c as usize] {
         text(b" ");
-        client_numbered(c);
+        client(c);
     }
 }
 
@@ -103,7 +98,7 @@ fn waiter(w: Waiter) {
     let c = w.client;
     let m = w.mode;
     text(b" ");
-    client_numbered(c.0);
+    client(c.0);
     labelled(b":", mode(m));
 }
 
@@ -145,7 +140,7 @@ fn present(x: AgentSlot) {
 // The agent of the machine, or none.
 fn machine(agents: [AgentSlot; MACHINES], k: u8) {
     if MACHINES as u8 <= k {
-        print::not_understood(b"no such machine");
+        print::out_of_range();
         return;
     }
     let slot = agents[k as usize];
@@ -154,7 +149,7 @@ fn machine(agents: [AgentSlot; MACHINES], k: u8) {
     text(b"\n");
 }
 
-fn lock(s: LockState, t: &[u8], k: usize, n: u8) {
+fn lock(s: LockState, k: usize, n: u8) {
     let c = s.clients;
     let a = s.agents;
     match k {
@@ -162,27 +157,21 @@ fn lock(s: LockState, t: &[u8], k: usize, n: u8) {
         3 => decider(s.decider),
         4 => machine(a, n),
         5 => wire(s.wire),
-        _ => print::not_understood(t),
+        _ => {}
     }
-}
-
-// Whether the clusters are the same in all their parts.
-fn compared(x: Cluster, y: Cluster, word: &[u8]) {
-    if same::clusters(x, y) {
-        text(b": ");
-    } else {
-        text(b": not ");
-    }
-    print::line(word);
 }
 
 // The cluster y is the one that was kept. The words' places are the cases here and in `lock`.
 pub fn shown(x: Cluster, y: Cluster, t: &[u8]) {
     let n = line::numbers_in(t);
-    let k = line::place(t, n.count, b"0fresh 0kept 1client 0decider 1machine 0wire");
+    let k = line::word(t, n.count, b"0fresh 0kept 1client 0decider 1machine 0wire");
     match k {
-        0 => compared(x, engine::fresh(), b"fresh"),
-        1 => compared(x, y, b"as kept"),
-        _ => lock(x.locks[0], t, k, n.first),
+        0 => print::either(
+            same::clusters(x, engine::fresh()),
+            b": fresh\n",
+            b": not fresh\n",
+        ),
+        1 => print::either(same::clusters(x, y), b": as kept\n", b": not as kept\n"),
+        _ => lock(x.locks[0], k, n.first),
     }
 }
