@@ -1,8 +1,8 @@
 // A call, printed with its answer. After a refusal the line says whether the whole cluster is as it was.
-use crate::line::Numbers;
-use crate::line::numbers_in;
-use crate::line::place;
-use crate::print;
+use by_hand::line::Numbers;
+use by_hand::line::numbers_in;
+use by_hand::line::place;
+use by_hand::print;
 use model::Cluster;
 use model::LockId;
 use model::MachineId;

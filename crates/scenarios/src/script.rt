@@ -1,13 +1,13 @@
 // The commands of the script, one after the other.
-use crate::agents;
 use crate::call;
-use crate::line;
-use crate::line::Numbers;
-use crate::line::rest;
-use crate::locks;
-use crate::packets;
-use crate::print;
 use crate::show;
+use by_hand::agents;
+use by_hand::line;
+use by_hand::line::Numbers;
+use by_hand::line::rest;
+use by_hand::locks;
+use by_hand::packets;
+use by_hand::print;
 use model::AgentSlot;
 use model::Cluster;
 use model::LOCKS;

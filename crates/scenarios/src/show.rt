@@ -1,11 +1,11 @@
 // What lock 0 has, a line for each thing asked, and whether the cluster is fresh, or as the one that was kept: `show ..`.
 ghost use Prim.Native.Nat.{_<_};
 ghost use Rattle.model.specs.States.{clients};
-use crate::line;
-use crate::print;
-use crate::print::client;
-use crate::print::number;
-use crate::print::text;
+use by_hand::line;
+use by_hand::print;
+use by_hand::print::client;
+use by_hand::print::number;
+use by_hand::print::text;
 use model::Agent;
 use model::AgentSlot;
 use model::CLIENTS;

@@ -65,7 +65,7 @@ pub fn rest(s: &[u8]) -> &[u8] {
 }
 
 // The first word of the text is this one.
-pub fn starts(s: &[u8], word: &[u8]) -> bool {
+fn starts(s: &[u8], word: &[u8]) -> bool {
     if s.len() < word.len() {
         return false;
     }
