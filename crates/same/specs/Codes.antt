@@ -1,9 +1,9 @@
 -- An enum's value in numbers, and back.
 use mathlib.Core.Path.{_≡_, refl}
-use mathlib.Core.Bool.{Bool, true, false}
+use mathlib.Core.Bool.{Bool, false}
 use Prim.Native.Nat.{ℕ, zero, suc}
 use Rattle.model.specs.States.{modeNumber, modeOf}
-use Rattle.model.specs.declared.{MachineId.MachineId, ClientId.ClientId}
+use Rattle.model.specs.declared.{ClientId.ClientId}
 use Rattle.model.specs.declared.{Mode.Mode, Mode.the-variants.{Exclusive, Shared}, Owner.Owner, Owner.the-variants.{Free as Unowned, Owned}}
 use Rattle.model.specs.declared.{Address.Address, Address.the-variants.{Decider as ToDecider, Machine as ToMachine}, Message.Message}
 use Rattle.model.specs.declared.{Message.the-variants.{Free, Acquire, Grant, Release}, Status.Status, Status.the-variants.{Idle, Waiting, Holding}}
@@ -40,7 +40,7 @@ mode-back Shared = refl
 pub modes : {r : Bool} {m n : Mode} → Decides r (modeNumber m) (modeNumber n) → Decides r m n
 modes = through modeNumber modeOf mode-back
 
--- the variant of that number, the last where there are fewer
+-- the one of four that the number says, the last for a larger number
 byVariant : {A : Type 0} → ℕ → A → A → A → A → A
 byVariant zero a b c d = a
 byVariant (suc zero) a b c d = b
