@@ -1,9 +1,8 @@
 // A call, printed with its answer. After a refusal the line says whether the whole cluster is as it was.
-use crate::line::MOST;
-use crate::line::numbers_in;
-use crate::line::says;
-use crate::print;
-use crate::same;
+use by_hand::line::Numbers;
+use by_hand::line::numbers_in;
+use by_hand::line::place;
+use by_hand::print;
 use model::Cluster;
 use model::LockId;
 use model::MachineId;
@@ -54,64 +53,34 @@ fn unknown(cluster: Cluster) -> Done {
     }
 }
 
-fn acquire(x: Cluster, v: [u8; MOST]) -> Done {
-    of_call(engine::acquire(x, LockId(v[0]), MachineId(v[1]), TaskId(v[2]), v[3]))
+fn acquire(x: Cluster, n: Numbers) -> Done {
+    of_call(engine::acquire(
+        x,
+        LockId(n.first),
+        MachineId(n.second),
+        TaskId(n.third),
+        n.fourth,
+    ))
 }
 
-fn release(x: Cluster, v: [u8; MOST]) -> Done {
-    of_call(engine::release(x, LockId(v[0]), MachineId(v[1]), TaskId(v[2])))
+fn release(x: Cluster, n: Numbers) -> Done {
+    of_call(engine::release(x, LockId(n.first), MachineId(n.second), TaskId(n.third)))
 }
 
-fn deliver(x: Cluster, v: [u8; MOST]) -> Done {
-    of_call(engine::deliver(x, LockId(v[0]), v[1]))
+fn deliver(x: Cluster, n: Numbers) -> Done {
+    of_call(engine::deliver(x, LockId(n.first), n.second))
 }
 
-enum Kind {
-    Acquire,
-    Release,
-    Deliver,
-    Drain,
-    Unknown,
-}
-
-fn kind_named(s: &[u8], n: usize) -> Kind {
-    if says(s, n, b"acquire", 4) {
-        return Kind::Acquire;
-    }
-    if says(s, n, b"release", 3) {
-        return Kind::Release;
-    }
-    if says(s, n, b"deliver", 2) {
-        return Kind::Deliver;
-    }
-    if says(s, n, b"drain", 1) {
-        return Kind::Drain;
-    }
-    Kind::Unknown
-}
-
-fn performed(x: Cluster, k: Kind, v: [u8; MOST]) -> Done {
-    match k {
-        Kind::Acquire => acquire(x, v),
-        Kind::Release => release(x, v),
-        Kind::Deliver => deliver(x, v),
-        Kind::Drain => drained(x, v[0]),
-        Kind::Unknown => unknown(x),
-    }
-}
-
-// The call that the text says.
+// The call that the text says. The words' places are the cases.
 fn read(x: Cluster, s: &[u8]) -> Done {
     let n = numbers_in(s);
-    let v = n.values;
-    performed(x, kind_named(s, n.count), v)
-}
-
-fn compared(x: Cluster, y: Cluster) {
-    if same::clusters(x, y) {
-        print::text(b" unchanged");
-    } else {
-        print::text(b" CHANGED");
+    let k = place(s, n.count, b"4acquire 3release 2deliver 1drain");
+    match k {
+        0 => acquire(x, n),
+        1 => release(x, n),
+        2 => deliver(x, n),
+        3 => drained(x, n.first),
+        _ => unknown(x),
     }
 }
 
@@ -122,22 +91,27 @@ fn answered(x: Cluster, d: Done) {
         print::long(d.steps);
     }
     if d.answer != 0 {
-        compared(x, d.cluster);
+        print::either(same::clusters(x, d.cluster), b" unchanged", b" CHANGED");
     }
 }
 
-// The text and the answer on a line.
-pub fn called(x: Cluster, s: &[u8]) -> Cluster {
+// The call that s says: prints a and b, the answer, and c.
+fn told(x: Cluster, s: &[u8], a: &[u8], b: &[u8], c: &[u8]) -> Cluster {
     let d = read(x, s);
     if d.known {
-        print::text(s);
-        print::text(b": ");
+        print::text(a);
+        print::text(b);
         answered(x, d);
-        print::text(b"\n");
+        print::text(c);
     } else {
         print::not_understood(s);
     }
     d.cluster
+}
+
+// The text and the answer on a line.
+pub fn called(x: Cluster, s: &[u8]) -> Cluster {
+    told(x, s, s, b": ", b"\n")
 }
 
 // The same, where the cluster that the call gives is not kept.
@@ -146,21 +120,10 @@ pub fn tried(x: Cluster, s: &[u8]) {
 }
 
 // The answer alone, behind a word.
-fn beside(x: Cluster, word: &[u8], s: &[u8]) {
-    let d = read(x, s);
-    if d.known {
-        print::text(word);
-        answered(x, d);
-    } else {
-        print::not_understood(s);
-    }
-}
-
 pub fn inside(x: Cluster, s: &[u8]) {
-    beside(x, b": inside ", s);
+    told(x, s, b": ", b"inside ", b"");
 }
 
 pub fn outside(x: Cluster, s: &[u8]) {
-    beside(x, b", outside ", s);
-    print::text(b"\n");
+    told(x, s, b", ", b"outside ", b"\n");
 }

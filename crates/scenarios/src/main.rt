@@ -1,12 +1,6 @@
 // Runs the script on standard input, which makes states by hand, calls on them and prints the answers. The file stdin is the script, and says at its
 // top what a script has; the file stdout was written by hand from document 01.
-mod agents;
 mod call;
-mod line;
-mod locks;
-mod packets;
-mod print;
-mod same;
 mod script;
 mod show;
 

@@ -1,22 +1,22 @@
 // The commands of the script, one after the other.
-use crate::agents;
 use crate::call;
-use crate::line;
-use crate::line::Numbers;
-use crate::line::rest;
-use crate::line::starts;
-use crate::locks;
-use crate::packets;
-use crate::print;
 use crate::show;
+use by_hand::agents;
+use by_hand::line;
+use by_hand::line::Numbers;
+use by_hand::line::rest;
+use by_hand::locks;
+use by_hand::packets;
+use by_hand::print;
 use model::AgentSlot;
 use model::Cluster;
 use model::LOCKS;
 use model::Packet;
 
-// The cluster of the next call, and the agent and the packet in the making.
+// The cluster of the next call, the one that was kept, and the agent and the packet in the making.
 pub struct Made {
     pub cluster: Cluster,
+    pub kept: Cluster,
     pub slot: AgentSlot,
     pub packet: Packet,
 }
@@ -27,21 +27,22 @@ fn nothing() -> Made {
     let packet = packets::blank();
     Made {
         cluster,
+        kept: cluster,
         slot,
         packet,
     }
 }
 
 fn with_lock(mut m: Made, s: &[u8], n: Numbers) -> Made {
-    let l = n.values[0];
-    if LOCKS as u8 <= l {
+    let l = n.first as usize;
+    if LOCKS <= l {
         print::not_understood(s);
         return m;
     }
     let mut x = m.cluster;
-    let state = x.locks[l as usize];
+    let state = x.locks[l];
     let made = locks::made(state, m.slot, m.packet, s, n);
-    x.locks[l as usize] = made;
+    x.locks[l] = made;
     m.cluster = x;
     m
 }
@@ -64,87 +65,49 @@ fn with_call(mut m: Made, s: &[u8]) -> Made {
     m
 }
 
-enum Verb {
-    Say,
-    Bound,
-    Show,
-    Try,
-    Inside,
-    Outside,
-    Fresh,
-    Lock,
-    Agent,
-    Packet,
-    Call,
+fn keeping(mut m: Made) -> Made {
+    let x = m.cluster;
+    m.kept = x;
+    m
 }
 
-fn printing(s: &[u8]) -> Verb {
-    if starts(s, b"say") {
-        return Verb::Say;
-    }
-    if starts(s, b"bound") {
-        return Verb::Bound;
-    }
-    if starts(s, b"show") {
-        return Verb::Show;
-    }
-    if starts(s, b"try") {
-        return Verb::Try;
-    }
-    if starts(s, b"inside") {
-        return Verb::Inside;
-    }
-    if starts(s, b"outside") {
-        return Verb::Outside;
-    }
-    making(s)
-}
-
-fn making(s: &[u8]) -> Verb {
-    if starts(s, b"fresh") {
-        return Verb::Fresh;
-    }
-    if starts(s, b"lock") {
-        return Verb::Lock;
-    }
-    if starts(s, b"agent") {
-        return Verb::Agent;
-    }
-    if starts(s, b"packet") {
-        return Verb::Packet;
-    }
-    Verb::Call
-}
-
-// Commands that leave everything as it is.
-fn printed(x: Cluster, v: Verb, s: &[u8]) {
-    match v {
-        Verb::Say => print::line(s),
-        Verb::Bound => print::text(s),
-        Verb::Show => show::shown(x, s),
-        Verb::Try => call::tried(x, s),
-        Verb::Inside => call::inside(x, s),
-        Verb::Outside => call::outside(x, s),
+// Commands that leave everything as it is; r follows the first word.
+fn printed(m: Made, k: usize, r: &[u8]) {
+    match k {
+        0 => print::line(r),
+        1 => print::text(r),
+        2 => show::shown(m.cluster, m.kept, r),
+        3 => call::tried(m.cluster, r),
+        4 => call::inside(m.cluster, r),
+        5 => call::outside(m.cluster, r),
         _ => {}
     }
 }
 
-// The numbers of the command are n; r follows its first word.
-fn changed(m: Made, v: Verb, s: &[u8], r: &[u8], n: Numbers) -> Made {
-    match v {
-        Verb::Fresh => nothing(),
-        Verb::Lock => with_lock(m, r, n),
-        Verb::Agent => with_slot(m, r, n),
-        Verb::Packet => with_packet(m, r, n),
-        Verb::Call => with_call(m, s),
-        _ => m,
+// The numbers of the command are n; a command of no other word is a call.
+fn changed(m: Made, k: usize, s: &[u8], r: &[u8], n: Numbers) -> Made {
+    match k {
+        6 => nothing(),
+        7 => keeping(m),
+        8 => with_lock(m, r, n),
+        9 => with_slot(m, r, n),
+        10 => with_packet(m, r, n),
+        _ => with_call(m, s),
     }
 }
 
+// The words' places are the cases of `printed` and `changed`.
 fn command(m: Made, s: &[u8]) -> Made {
-    let v = printing(s);
-    printed(m.cluster, v, rest(s));
-    changed(m, v, s, rest(s), line::numbers_in(s))
+    let k = line::place(
+        s,
+        0,
+        b"*say *bound *show *try *inside *outside *fresh *keep *lock *agent *packet",
+    );
+    if k < 6 {
+        printed(m, k, rest(s));
+        return m;
+    }
+    changed(m, k, s, rest(s), line::numbers_in(s))
 }
 
 // A comment or nothing, or a command.

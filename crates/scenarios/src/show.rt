@@ -1,13 +1,11 @@
-// What lock 0 has, a line for each thing asked, and whether the cluster is fresh: `show ..`.
+// What lock 0 has, a line for each thing asked, and whether the cluster is fresh, or as the one that was kept: `show ..`.
 ghost use Prim.Native.Nat.{_<_};
 ghost use Rattle.model.specs.States.{clients};
-use crate::line;
-use crate::line::says;
-use crate::print;
-use crate::print::client;
-use crate::print::number;
-use crate::print::text;
-use crate::same;
+use by_hand::line;
+use by_hand::print;
+use by_hand::print::client;
+use by_hand::print::number;
+use by_hand::print::text;
 use model::Agent;
 use model::AgentSlot;
 use model::CLIENTS;
@@ -21,7 +19,6 @@ use model::Owner;
 use model::QUEUE_CAPACITY;
 use model::Queue;
 use model::Status;
-use model::TASKS;
 use model::Waiter;
 use model::Wire;
 
@@ -35,10 +32,6 @@ fn mode(m: Mode) -> u8 {
 fn labelled(label: &[u8], n: u8) {
     text(label);
     number(n);
-}
-
-fn client_numbered(c: u8) {
-    client(c / TASKS as u8, c % TASKS as u8);
 }
 
 fn wire(w: Wire) {
@@ -74,12 +67,12 @@ fn status_words(s: Status) {
 
 fn status(clients: [ClientState; CLIENTS], c: u8) {
     if CLIENTS as u8 <= c {
-        print::not_understood(b"no such client");
+        print::out_of_range();
         return;
     }
     let y = clients[c as usize];
     let z = y.status;
-    client_numbered(c);
+    client(c);
     status_words(z);
     text(b"\n");
 }
@@ -89,7 +82,7 @@ fn listed(set: [bool; CLIENTS], c: u8)
 {
     if set[c as usize] {
         text(b" ");
-        client_numbered(c);
+        client(c);
     }
 }
 
@@ -105,7 +98,7 @@ fn waiter(w: Waiter) {
     let c = w.client;
     let m = w.mode;
     text(b" ");
-    client_numbered(c.0);
+    client(c.0);
     labelled(b":", mode(m));
 }
 
@@ -147,7 +140,7 @@ fn present(x: AgentSlot) {
 // The agent of the machine, or none.
 fn machine(agents: [AgentSlot; MACHINES], k: u8) {
     if MACHINES as u8 <= k {
-        print::not_understood(b"no such machine");
+        print::out_of_range();
         return;
     }
     let slot = agents[k as usize];
@@ -156,57 +149,29 @@ fn machine(agents: [AgentSlot; MACHINES], k: u8) {
     text(b"\n");
 }
 
-enum Part {
-    Client,
-    Decider,
-    Machine,
-    Wire,
-    Unknown,
-}
-
-fn part_named(t: &[u8], n: usize) -> Part {
-    if says(t, n, b"client", 1) {
-        return Part::Client;
-    }
-    if says(t, n, b"decider", 0) {
-        return Part::Decider;
-    }
-    if says(t, n, b"machine", 1) {
-        return Part::Machine;
-    }
-    if says(t, n, b"wire", 0) {
-        return Part::Wire;
-    }
-    Part::Unknown
-}
-
-fn lock(s: LockState, t: &[u8], p: Part, n: u8) {
+fn lock(s: LockState, k: usize, n: u8) {
     let c = s.clients;
     let a = s.agents;
-    match p {
-        Part::Client => status(c, n),
-        Part::Decider => decider(s.decider),
-        Part::Machine => machine(a, n),
-        Part::Wire => wire(s.wire),
-        Part::Unknown => print::not_understood(t),
+    match k {
+        2 => status(c, n),
+        3 => decider(s.decider),
+        4 => machine(a, n),
+        5 => wire(s.wire),
+        _ => {}
     }
 }
 
-// Whether the cluster is fresh in all its parts.
-fn fresh(x: Cluster) {
-    if same::clusters(x, engine::fresh()) {
-        text(b": fresh\n");
-    } else {
-        text(b": not fresh\n");
-    }
-}
-
-pub fn shown(x: Cluster, t: &[u8]) {
+// The cluster y is the one that was kept. The words' places are the cases here and in `lock`.
+pub fn shown(x: Cluster, y: Cluster, t: &[u8]) {
     let n = line::numbers_in(t);
-    if says(t, n.count, b"fresh", 0) {
-        fresh(x);
-        return;
+    let k = line::word(t, n.count, b"0fresh 0kept 1client 0decider 1machine 0wire");
+    match k {
+        0 => print::either(
+            same::clusters(x, engine::fresh()),
+            b": fresh\n",
+            b": not fresh\n",
+        ),
+        1 => print::either(same::clusters(x, y), b": as kept\n", b": not as kept\n"),
+        _ => lock(x.locks[0], k, n.first),
     }
-    let s = x.locks[0];
-    lock(s, t, part_named(t, n.count), n.values[0]);
 }
