@@ -1,5 +1,6 @@
 -- The names that the proofs cite.
 pub use mathlib.Core.Path.{_≡_, refl, sym, _∙_}
+pub use mathlib.Core.List.{[]}
 pub use mathlib.Core.Bool.{false, true≢false, false≢true, _&&_, not, and-assoc}
 pub use Prim.Native.Nat.{_+_, _-_, _*_, _<_, _≤_}
 pub use native.Mathlib.Omega.{arith}
