@@ -1,5 +1,6 @@
 -- The names that the proofs cite.
 pub use mathlib.Core.Path.{_≡_, refl, sym, _∙_}
+pub use mathlib.Core.List.{[]}
 pub use mathlib.Core.Bool.{false, true≢false, false≢true, _&&_, not, and-assoc}
 pub use Prim.Native.Nat.{_+_, _-_, _*_, _<_, _≤_}
 pub use native.Mathlib.Omega.{arith}
@@ -25,6 +26,7 @@ unfoldable pub use Rattle.engine.specs.LockCalls.{stepUnless, acquireOn,
 pub use Rattle.engine.specs.LockCalls.{in-range, first-no, read-formed, perform-accepts, perform-refuses, perform-malformed, perform-range}
 pub use Rattle.engine.specs.DrainState.{holderFrom, holder-here, holder-next, holder-end, Since, along-start, since-more, since-next, since-end}
 pub use Rattle.engine.specs.DrainState.{still-open}
-pub use Rattle.engine.specs.DrainState.{delivery-planned, release-planned, none-holds, progress-quiescent, progress-spent, progress-refused}
-pub use Rattle.engine.specs.DrainState.{progress-on, made, drain-ends, drain-stops, drain-malformed, drain-range}
+pub use Rattle.engine.specs.DrainState.{delivery-planned, release-planned, none-holds, progress-quiescent, within-some, within-made}
+unfoldable pub use Rattle.engine.specs.DrainState.{within}
+pub use Rattle.engine.specs.DrainState.{progress-made, progress-stops, made, drain-ends, drain-stops, drain-malformed, drain-range}
 pub use Rattle.engine.specs.declared.draining.Draining.{Draining}

@@ -1,5 +1,5 @@
 -- The drain of one lock's state, by the same steps as the drain of a cluster, without its calls' tests.
-use mathlib.Core.Path.{_≡_, refl, sym, ap, _∙_}
+use mathlib.Core.Path.{_≡_, refl, sym, ap, subst, _∙_}
 use mathlib.Core.Bool.{true, false, true≢false}
 use mathlib.Core.List.{List, [], _∷_}
 use Prim.Native.Nat.{ℕ, zero, suc, _+_, _-_, _*_, _/_, _%_, _<_, _≤_}
@@ -14,7 +14,7 @@ use Rattle.engine.specs.Names.{LockId, Packet, ClientState, LockState, C
 use Rattle.engine.specs.Names.{NotQuiescent, Answer, Accepted, Refused, Stepped}
 use Rattle.model.specs.States.{locks, tasks, clients, packets, lockIn, freshLock}
 use Rattle.model.specs.WellFormed.{lockFormed, wellFormed}
-use Rattle.model.specs.Refusals.{first}
+use Rattle.model.specs.Refusals.{number, first}
 use Rattle.model.specs.Calls.{isHolding, releaseStep, deliverStep, settled, perform}
 use Rattle.model.specs.Drain.{allowance, Next, none, some, releaseFirst, nextOf, nextCall, Drainage, ending, drainage, drainRefused, drainEnded}
 use Rattle.model.specs.Drain.{drainUnless, drain}
@@ -322,8 +322,31 @@ module _ {d : Draining} (o : Open d) where
   pub progress-quiescent : ((l : LockId) → nextCall l (d .state) ≡ none) → Stepping d (endedWith Accepted d)
   progress-quiescent n = progress-ends Accepted (λ l. state-quiescent l (d .state) (d .left) (n l))
 
+-- the answer to a step that is planned with the answer a, with so many left
+unfoldable pub within : ℕ → Answer → Answer
+within zero a = Refused NotQuiescent
+within (suc left) a = a
+
+pub within-some : (left : ℕ) (a : Answer) → (left ≡ 0 → ⊥) → a ≡ within left a
+unfolding within
+within-some zero a h = absurd (h refl)
+within-some (suc left) a h = refl
+
+-- b, the answer, accepts
+pub within-made : {left : ℕ} {a b : Answer} → b ≡ within left a → b ≡ Accepted → (left ≡ 0 → ⊥) × (a ≡ Accepted)
+unfolding within
+within-made {left = left} {a = a} q e = go left (sym q ∙ e)
+  where
+    go : (n : ℕ) → within n a ≡ Accepted → (n ≡ 0 → ⊥) × (a ≡ Accepted)
+    go zero e = absurd (omega (arith, ap number e))
+    go (suc n) e = (λ z. omega (arith, z), e)
+
+-- the step planned as p is made
+abbrev pub steppedBy : Plan → Draining → Draining
+steppedBy p d = record { ended = d .ended; answer = d .answer; left = d .left - 1; state = carriedOut p (d .state) }
+
 module _ {d : Draining} {p : Plan} (g : (Open d) × (Planned (d .state) p)) where
-  pub progress-spent : d .left ≡ 0 → Stepping d (endedWith (Refused NotQuiescent) d)
+  progress-spent : d .left ≡ 0 → Stepping d (endedWith (Refused NotQuiescent) d)
   progress-spent z = progress-ends (g .0) (Refused NotQuiescent) (λ l. rw z (state-spent l (d .state) (g .1 .call l) (g .1 .next l)))
 
   -- the step answers what the plan does
@@ -331,12 +354,12 @@ module _ {d : Draining} {p : Plan} (g : (Open d) × (Planned (d .state) p)) wher
   answers a q l = rw (g .1 .step l) q
 
   module _ (h : d .left ≡ 0 → ⊥) where
-    pub progress-refused : (r : Refusal) → p .answer ≡ Refused r → Stepping d (endedWith (Refused r) d)
+    progress-refused : (r : Refusal) → p .answer ≡ Refused r → Stepping d (endedWith (Refused r) d)
     progress-refused r q =
         let a = answers (Refused r) (ap (λ (t : Stepped). t .answer) (sym (plan-refuses (g .1 .plans) r q))) in
         progress-ends (g .0) (Refused r) (λ l. state-refuses l (d .state) (g .1 .call l) (g .1 .next l) (d .left) r (omega (arith, h)) (a l))
 
-    pub progress-on : p .answer ≡ Accepted → Stepping d (record { ended = d .ended; answer = d .answer; left = d .left - 1; state = carriedOut p (d .state) })
+    progress-on : p .answer ≡ Accepted → Stepping d (steppedBy p d)
     progress-on q =
         let t = plan-accepts (g .1 .plans) q in
         let a = answers Accepted (ap (λ (t : Stepped). t .answer) (sym t)) in
@@ -349,3 +372,16 @@ module _ {d : Draining} {p : Plan} (g : (Open d) × (Planned (d .state) p)) wher
           },
           λ z. omega (arith, h),
         )
+
+  -- by the step's answer
+  module _ {a : Answer} (q : a ≡ within (d .left) (p .answer)) where
+    pub progress-made : a ≡ Accepted → Stepping d (steppedBy p d)
+    progress-made e = let m = within-made q e in progress-on (m .0) (m .1)
+
+    pub progress-stops : (r : Refusal) → a ≡ Refused r → Stepping d (endedWith a d)
+    unfolding within
+    progress-stops r e = go (d .left) refl
+      where
+        go : (n : ℕ) → d .left ≡ n → Stepping d (endedWith a d)
+        go zero z = subst (λ (b : Answer). Stepping d (endedWith b d)) (sym (rw z at q)) (progress-spent z)
+        go (suc n) z = let f : p .answer ≡ a = sym (rw z at q) in rw e (progress-refused (λ y. omega (arith, y, z)) r (f ∙ e))

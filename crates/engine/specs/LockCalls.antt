@@ -40,6 +40,15 @@ releaseOn s k t = stepUnless (first (releaseTests s k t)) s (releaseStep s (clie
 unfoldable pub deliverOn : LockState → ℕ → Stepped
 deliverOn s i = stepUnless (first (deliverTests s i)) s (deliverStep s i)
 
+-- ---- the tests of machine and task, and those that follow
+abbrev pub rangeTests : MachineId → TaskId → List Cause → List Cause
+rangeTests k t cs = (MachineRange when leb machines (k .0)) ∷ (TaskRange when leb tasks (t .0)) ∷ cs
+
+-- the answer where the first tests answer the one and those that follow the other
+abbrev pub further : Answer → Answer → Answer
+further Accepted a = a
+further (Refused n) a = Refused n
+
 -- ---- a cause that does not hold
 pub first-no : (n : Refusal) {b : Bool} (cs : List Cause) {a : Answer} → b ≡ false → a ≡ first cs → a ≡ first ((n when b) ∷ cs)
 unfolding first
@@ -52,7 +61,7 @@ all-no n false cs e = (refl, e)
 
 -- where nothing refuses, machine and task are in range
 pub in-range : (k : MachineId) (t : TaskId) (cs : List Cause)
-    → first ((MachineRange when leb machines (k .0)) ∷ (TaskRange when leb tasks (t .0)) ∷ cs) ≡ Accepted → (k .0 < machines) × (t .0 < tasks)
+    → first (rangeTests k t cs) ≡ Accepted → (k .0 < machines) × (t .0 < tasks)
 in-range k t cs e =
     let p = all-no MachineRange (leb machines (k .0)) ((TaskRange when leb tasks (t .0)) ∷ cs) e in
     let q = all-no TaskRange (leb tasks (t .0)) cs (p .1) in
@@ -123,9 +132,9 @@ module _ (c : Call) (x : Cluster) (l : LockId) (d : LockState) (f : (wellFormed 
   whole : perform c x ≡ record { answer = callOn c read .answer; cluster = record { locks = set (x .locks) (l .0) (callOn c read .state) } }
   whole = rw (lock-read x l d (f .0) (f .1 .0), f .1 .1) (perform-whole c x (f .0) (rw (f .1 .1) at (f .1 .0)))
 
-  pub perform-accepts : p .answer ≡ Accepted
-      → record { answer = p .answer; cluster = record { locks = set (x .locks) (l .0) (carriedOut p read) } } ≡ perform c x
-  perform-accepts a = rw (a, whole, ← plan-accepts g a)
+  pub perform-accepts : p .answer ≡ Accepted → {t : LockState} → t ≡ carriedOut p read
+      → record { answer = p .answer; cluster = record { locks = set (x .locks) (l .0) t } } ≡ perform c x
+  perform-accepts a e = rw (e, a, whole, ← plan-accepts g a)
 
   pub perform-refuses : (n : Refusal) → p .answer ≡ Refused n → record { answer = p .answer; cluster = x } ≡ perform c x
   perform-refuses n a = rw (a, whole, ← plan-refuses g n a) (rw (lock-read x l d (f .0) (f .1 .0), set-getD (x .locks) (l .0) freshLock))

@@ -13,7 +13,6 @@ use model::LOCKS;
 use model::LockId;
 use model::LockState;
 use model::Refusal;
-use rules::plan::Plan;
 use rules::plan::carry_out;
 use rules::steps::plan_deliver;
 use rules::steps::plan_release;
@@ -24,7 +23,7 @@ ghost use Rattle.model.specs.States.{locks};
 ghost use Rattle.model.specs.WellFormed.{wellFormed};
 ghost use Rattle.model.specs.Drain.{drainRefused, drain};
 ghost use Rattle.engine.specs.Names.{LockId};
-ghost use Rattle.engine.specs.DrainState.{Open, Planned, Stepping, endedWith, drainOn, holderFrom};
+ghost use Rattle.engine.specs.DrainState.{Open, Stepping, endedWith, within, drainOn, holderFrom};
 
 // How far the drain of one lock's state came: the steps that are left and, where it has ended, its answer.
 pub(crate) struct Draining {
@@ -62,22 +61,14 @@ fn end_with(d: Draining, a: Answer) -> Draining
     }
 }
 
-// The drain's next step, planned as p, is made; with no step left, or where the plan refuses, the drain ends.
-fn make_step(mut d: Draining, p: Plan) -> Draining
-    requires { ⌜ (Open d) × (Planned (d .state) p) ⌝ }
-    ensures { λ r. ⌜ Stepping d r ⌝ }
+// The answer to the drain's next step, planned with the answer a: with no step left the drain ends.
+fn step_answer(left: u16, a: Answer) -> Answer
+    ensures { λ r. ⌜ r ≡ within left a ⌝ }
 {
-    if d.left == 0 {
-        return end_with(d, Answer::Refused(Refusal::NotQuiescent));
-    }
-    let a = p.answer;
-    match a {
-        Answer::Accepted => {
-            d.state = carry_out(p, d.state);
-            d.left -= 1;
-            d
-        }
-        Answer::Refused(r) => end_with(d, Answer::Refused(r)),
+    if left == 0 {
+        Answer::Refused(Refusal::NotQuiescent)
+    } else {
+        a
     }
 }
 
@@ -89,9 +80,16 @@ fn deliver_all(start: Draining) -> Draining
     let mut d = start;
     while 0 < d.state.wire.len {
         let p = plan_deliver(d.state, 0);
-        d = make_step(d, p);
-        if d.ended {
-            return d;
+        let planned = p.answer;
+        let a = step_answer(d.left, planned);
+        match a {
+            Answer::Accepted => {
+                d.state = carry_out(p, d.state);
+                d.left -= 1;
+            }
+            Answer::Refused(_) => {
+                return end_with(d, a);
+            }
         }
     }
     d
@@ -110,9 +108,16 @@ fn release_all(start: Draining) -> Draining
             return end_with(d, Answer::Accepted);
         }
         let p = plan_release(d.state, ClientId(c));
-        d = make_step(d, p);
-        if d.ended {
-            return d;
+        let planned = p.answer;
+        let a = step_answer(d.left, planned);
+        match a {
+            Answer::Accepted => {
+                d.state = carry_out(p, d.state);
+                d.left -= 1;
+            }
+            Answer::Refused(_) => {
+                return end_with(d, a);
+            }
         }
     }
     d

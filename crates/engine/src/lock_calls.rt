@@ -22,15 +22,16 @@ use rules::steps::plan_deliver;
 use rules::steps::plan_release;
 ghost use mathlib.Core.Path.{_≡_};
 ghost use mathlib.Core.Bool.{true, _||_};
+ghost use mathlib.Core.List.{List};
 ghost use Prim.Native.Nat.{_<_};
 ghost use lib.Dec.{eqb};
 ghost use Rattle.model.specs.States.{machines, tasks, clientOf, modeOf};
 ghost use Rattle.model.specs.WellFormed.{lockFormed};
-ghost use Rattle.model.specs.Refusals.{first};
+ghost use Rattle.model.specs.Refusals.{Cause, first};
 ghost use Rattle.model.specs.Calls.{isIdle, isHolding, idleTests, acquireTests, holdingTests, releaseTests, lockOf};
 ghost use Rattle.laws.specs.Shapes.{CanonicalWire};
 ghost use Rattle.rules.specs.Plans.{Plans};
-ghost use Rattle.engine.specs.LockCalls.{acquireOn, releaseOn, deliverOn, callOn};
+ghost use Rattle.engine.specs.LockCalls.{rangeTests, further, acquireOn, releaseOn, deliverOn, callOn};
 pub use rules::plan::Plan;
 pub use rules::plan::carry_out;
 
@@ -94,18 +95,33 @@ fn idle_test(s: LockState, c: ClientId) -> Answer
     }
 }
 
-fn acquire_test(s: LockState, k: MachineId, t: TaskId, m: u8) -> Answer
-    requires { ⌜ CanonicalWire (s .wire) ⌝ }
-    ensures { λ r. ⌜ r ≡ first (acquireTests s k t m) ⌝ }
+// Machine and task are in range. These tests come first, whatever others follow.
+fn range_test(k: MachineId, t: TaskId) -> Answer
+    ensures { λ r. ⌜ ((cs : List Cause) → first (rangeTests k t cs) ≡ further r (first cs)) ⌝ }
 {
     if MACHINES as u8 <= k.0 {
         Answer::Refused(Refusal::MachineRange)
     } else if TASKS as u8 <= t.0 {
         Answer::Refused(Refusal::TaskRange)
-    } else if is_mode(m) {
-        idle_test(s, client_of(k, t))
     } else {
-        Answer::Refused(Refusal::ModeRange)
+        Answer::Accepted
+    }
+}
+
+fn acquire_test(s: LockState, k: MachineId, t: TaskId, m: u8) -> Answer
+    requires { ⌜ CanonicalWire (s .wire) ⌝ }
+    ensures { λ r. ⌜ r ≡ first (acquireTests s k t m) ⌝ }
+{
+    let a = range_test(k, t);
+    match a {
+        Answer::Accepted => {
+            if is_mode(m) {
+                idle_test(s, client_of(k, t))
+            } else {
+                Answer::Refused(Refusal::ModeRange)
+            }
+        }
+        Answer::Refused(n) => Answer::Refused(n),
     }
 }
 
@@ -123,12 +139,10 @@ fn holding_test(s: LockState, c: ClientId) -> Answer
 fn release_test(s: LockState, k: MachineId, t: TaskId) -> Answer
     ensures { λ r. ⌜ r ≡ first (releaseTests s k t) ⌝ }
 {
-    if MACHINES as u8 <= k.0 {
-        Answer::Refused(Refusal::MachineRange)
-    } else if TASKS as u8 <= t.0 {
-        Answer::Refused(Refusal::TaskRange)
-    } else {
-        holding_test(s, client_of(k, t))
+    let a = range_test(k, t);
+    match a {
+        Answer::Accepted => holding_test(s, client_of(k, t)),
+        Answer::Refused(n) => Answer::Refused(n),
     }
 }
 

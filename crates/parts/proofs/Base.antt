@@ -1,5 +1,5 @@
 -- The names that the proofs cite.
-pub use mathlib.Core.Path.{_≡_, sym, ap, _∙_}
+pub use mathlib.Core.Path.{_≡_, refl, sym, ap, _∙_}
 pub use mathlib.Core.Bool.{Bool, false}
 pub use Prim.Native.Nat.{_-_, _<_, _≤_}
 pub use native.Mathlib.Omega.{arith}

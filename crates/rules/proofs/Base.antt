@@ -17,7 +17,7 @@ pub use Rattle.laws.specs.Shapes.{packets-of, waiters-of, length-packets, queue
 pub use Rattle.laws.specs.Parting.{none-leaves}
 pub use Rattle.parts.specs.Scans.{used-more, used-end}
 unfoldable pub use Rattle.rules.specs.Effects.{sentBy, verdictOf}
-pub use Rattle.rules.specs.Effects.{sent-length, few-of-two, some-of-two, all-of-two, lays-none, lays-one, posted-both}
+pub use Rattle.rules.specs.Effects.{sent-length, few-of-two, some-of-two, all-of-two, lays-none, lays-one, lays-two, posted-both}
 pub use Rattle.rules.specs.Leaving.{hands-on, frees}
 pub use Rattle.rules.specs.Admits.{Room, admits, admits-none, admits-next, room-next, room-start, admits-start, room-left}
 unfoldable pub use Rattle.rules.specs.Admits.{admitsOne}

@@ -2,6 +2,7 @@
 use mathlib.Core.Path.{_≡_, sym, ap, subst, _∙_}
 use mathlib.Core.List.{List, [], _∷_, _++_, append-nil, map}
 use Prim.Native.Nat.{ℕ, zero, suc, _+_, _<_, _≤_}
+use native.Mathlib.Numerals.{add-one}
 use native.Mathlib.Omega.{arith}
 use lib.ListN.{length, take, drop, set, take-append-drop, length-append, length-map}
 use lib.Seq.{append-snoc, length-take-le, take-all, take-append-seam, sets}
@@ -44,6 +45,9 @@ module _ (a : List Packet) (n k : ℕ) (p q : Packet) where
 
   pub lays-one : k ≡ 1 → set a n p ≡ sets a n (take k (p ∷ q ∷ []))
   lays-one e = rw e
+
+  pub lays-two : 2 ≤ k → set (set a n p) (n + 1) q ≡ sets a n (take k (p ∷ q ∷ []))
+  lays-two h = rw (take-all k (p ∷ q ∷ []) h, add-one)
 
 sets-append : (a : List Packet) (n : ℕ) (ps qs : List Packet) → sets (sets a n ps) (n + length ps) qs ≡ sets a n (ps ++ qs)
 sets-append a n [] qs = let e : n + 0 ≡ n = omega arith in rw e

@@ -10,5 +10,5 @@ perform-on-spec = tie.close (tie.spec (search needs) (search needs) (search need
     (ready _ (read-formed (s .args .x) _ _ (s .pre .0) (s .pre .1 .0)) .wire, b .plan-call .ensures .fits (c .enum-told .given .1))) (search needs)
     (search needs) (search needs)
     (λ c. let b = c .before .before .before in
-    rw (c .carry-out .ensures) (perform-accepts _ _ _ _ (b .before .before .before .pre) (b .plan-call .ensures) (c .before .enum-told .given .1)))
+    perform-accepts _ _ _ _ (b .before .before .before .pre) (b .plan-call .ensures) (c .before .enum-told .given .1) (c .carry-out .ensures))
     (λ c. let b = c .before .before in perform-refuses _ _ _ _ (b .before .before .before .pre) (b .plan-call .ensures) _ (c .enum-told2 .given .1)))

@@ -1,5 +1,5 @@
-use Rattle.engine.proofs.Base.{_≡_, sym, _∙_, true≢false, false≢true, arith, needs, ready, Draining, Since, along-start, since-more, since-next}
-use Rattle.engine.proofs.Base.{since-end, progress-quiescent, release-planned, none-holds}
+use Rattle.engine.proofs.Base.{_≡_, true≢false, arith, needs, ready, Draining, Since, along-start, since-more, since-next, since-end}
+use Rattle.engine.proofs.Base.{progress-quiescent, release-planned, none-holds, within-made, progress-made, progress-stops}
 use Rattle.engine.proofs.draining.release_all.Statement.{statement}
 use Rattle.engine.proofs.draining.release_all.Tie as tie
 
@@ -13,13 +13,26 @@ release-all-spec = tie.close (tie.spec (Since Quiet) (λ _ d. d .left) (λ c. (a
     let i = b .before .before .before .before .loop .inv in
     let n = none-holds _ (i .0 .0 .formed) (b .before .before .if1 .taken) _ (b .first-holder .ensures) (c .before .if2 .taken) in
     rw (c .end-with .ensures) (since-more Quiet i (progress-quiescent (i .0 .0) n), λ e. absurd (true≢false e)))
-    (λ c κs. ready _ (c .before .before .before .before .before .loop .inv .0 .0 .formed))
+    (λ c κs. ready _ (c .before .before .before .before .before .loop .inv .0 .0 .formed)) (search needs) (search needs)
     (λ c κs. let b = c .before .before in
-    let o = b .before .before .before .before .loop .inv .0 .0 in
-    (o, release-planned _ (o .formed) (b .before .before .if1 .taken) _ (b .first-holder .ensures) _ (c .before .if2 .left) (c .plan-release .ensures)))
-    (λ c. let b = c .before .before .before .before .before .before .before .before in
-    (since-more Quiet (b .loop .inv) (c .before .make-step .ensures), λ e. absurd (false≢true (sym e ∙ c .if3 .taken))))
-    (λ c. c .before .make-step .ensures .1 (c .if3 .left))
-    (λ c. let b = c .before .before .before .before .before .before .before .before in
-    since-next Quiet (b .loop .inv) (c .before .make-step .ensures) (c .if3 .left))
+    let o = b .before .before .before .before .before .before .before .loop .inv .0 .0 in
+    (ready _ (o .formed) .wire, b .before .plan-release .ensures .fits (within-made (b .step-answer .ensures) (c .enum-told .given .1) .1)))
+    (λ c. let m = within-made (c .before .before .before .before .step-answer .ensures) (c .before .before .enum-told .given .1) in omega (arith, m .0))
+    (λ c. let m = within-made (c .before .before .before .before .step-answer .ensures) (c .before .before .enum-told .given .1) in omega (arith, m .0))
+    (λ c. let b = c .before .before .before .before in
+    let f = b .before .before .before in
+    let i = f .before .before .before .before .loop .inv in
+    let h = release-planned _ (i .0 .0 .formed) (f .before .before .if1 .taken) _ (f .first-holder .ensures) _ (b .before .before .if2 .left) in
+    rw (c .before .carry-out .ensures)
+    (since-next Quiet i (progress-made (i .0 .0, h (b .before .plan-release .ensures)) (b .step-answer .ensures) (c .before .before .enum-told .given .1))
+    (i .0 .0 .goes)))
+    (search needs) (search needs)
+    (λ c. let b = c .before .before .before in
+    let f = b .before .before .before in
+    let i = f .before .before .before .before .loop .inv in
+    let h = release-planned _ (i .0 .0 .formed) (f .before .before .if1 .taken) _ (f .first-holder .ensures) _ (b .before .before .if2 .left) in
+    rw (c .end-with2 .ensures) (
+      since-more Quiet i (progress-stops (i .0 .0, h (b .before .plan-release .ensures)) (b .step-answer .ensures) _ (c .before .enum-told2 .given .1)),
+      λ e. absurd (true≢false e),
+    ))
     (λ c. (since-end Quiet (c .before .before .loop .inv) (c .if1 .left), λ e. omega (arith, c .if1 .left))))

@@ -1,4 +1,4 @@
-use Rattle.engine.proofs.Base.{refl, _-_, needs, Joins, joins-next, joins-whole, queueCapacity, isBlankWaiter, shaped}
+use Rattle.engine.proofs.Base.{refl, _-_, arith, needs, Joins, joins-next, joins-whole, queueCapacity, isBlankWaiter, shaped}
 use Rattle.engine.proofs.formed.shaped_waiters.Statement.{statement}
 use Rattle.engine.proofs.formed.shaped_waiters.Tie as tie
 
@@ -7,4 +7,4 @@ unfolding shaped
 shaped-waiters-spec = tie.close (tie.spec (λ _. Joins isBlankWaiter) (λ _ _ _ _ _ j. queueCapacity - j) (λ c. record { same = refl }) (search needs)
     (search needs) (search needs) (search needs) (search needs)
     (λ c. rw (c .is-blank-waiter .ensures) (joins-next (c .before .before .before .loop .inv) _ (search needs)))
-    (λ c. joins-whole (c .before .loop .inv) (search needs) (search needs)))
+    (λ c. joins-whole (c .before .loop .inv) (search needs) (omega arith)))

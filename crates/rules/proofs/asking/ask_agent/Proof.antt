@@ -1,4 +1,4 @@
-use Rattle.rules.proofs.Base.{needs, clientAsks}
+use Rattle.rules.proofs.Base.{refl, needs, clientAsks}
 use Rattle.rules.proofs.asking.ask_agent.Statement.{statement}
 use Rattle.rules.proofs.asking.ask_agent.Tie as tie
 
@@ -8,7 +8,7 @@ returns c =
     let d = c .before .before .before in
     let b = d .before .before .before in
     rw (c .doing .ensures, c .before .no-packet .ensures, c .before .before .with-slot .ensures, d .with-status .ensures, d .before .some-agent .ensures)
-    (rw (d .before .before .join .ensures, ← b .before .may-join .ensures, b .if1 .taken))
+    (rw (d .before .before .join .ensures, ← b .before .may-join .ensures, b .if1 .taken) refl)
 
 pub ask-agent-spec : {M : Type 1} → statement M
 unfolding clientAsks

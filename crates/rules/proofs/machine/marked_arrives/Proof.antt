@@ -1,4 +1,4 @@
-use Rattle.rules.proofs.Base.{needs, marked}
+use Rattle.rules.proofs.Base.{refl, needs, marked}
 use Rattle.rules.proofs.machine.marked_arrives.Statement.{statement}
 use Rattle.rules.proofs.machine.marked_arrives.Tie as tie
 
@@ -8,7 +8,7 @@ returns c =
     let d = c .before .before .before in
     let b = d .before .before .before in
     rw (c .doing .ensures, c .before .no-packet .ensures, c .before .before .with-slot .ensures, d .some-agent .ensures, d .before .wrapping-add-u8 .ensures)
-    (rw (d .before .before .join .ensures, ← b .before .is-shared .ensures, b .if1 .taken))
+    (rw (d .before .before .join .ensures, ← b .before .is-shared .ensures, b .if1 .taken) refl)
 
 pub marked-arrives-spec : {M : Type 1} → statement M
 unfolding marked

@@ -1,4 +1,4 @@
-use Rattle.rules.proofs.Base.{sym, _∙_, needs, room-left}
+use Rattle.rules.proofs.Base.{refl, sym, _∙_, needs, room-left}
 use Rattle.rules.proofs.machine.queue_first.Statement.{statement}
 use Rattle.rules.proofs.machine.queue_first.Tie as tie
 
@@ -7,7 +7,7 @@ returns-2 c =
     let d = c .before .before .before in
     let b = d .before .before in
     rw (c .doing .ensures, c .before .no-packet .ensures, c .before .before .with-slot .ensures, d .some-agent .ensures, d .before .push-front .ensures)
-    (rw (← b .before .no-room .ensures, b .if1 .left))
+    (rw (← b .before .no-room .ensures, b .if1 .left) refl)
 
 pub queue-first-spec : {M : Type 1} → statement M
 queue-first-spec = tie.close (tie.spec (λ c κs. search needs) (search needs)

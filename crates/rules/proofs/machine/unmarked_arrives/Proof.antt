@@ -1,4 +1,4 @@
-use Rattle.rules.proofs.Base.{needs, unmarked}
+use Rattle.rules.proofs.Base.{refl, needs, unmarked}
 use Rattle.rules.proofs.machine.unmarked_arrives.Statement.{statement}
 use Rattle.rules.proofs.machine.unmarked_arrives.Tie as tie
 
@@ -8,7 +8,7 @@ returns c =
     let d = c .before .before .before in
     let b = d .before .before .before in
     rw (c .doing .ensures, c .before .one-packet .ensures, c .before .before .with-slot .ensures, d .plain-packet .ensures, d .before .some-agent .ensures)
-    (rw (d .before .before .join .ensures, ← b .before .may-join .ensures, b .if1 .taken))
+    (rw (d .before .before .join .ensures, ← b .before .may-join .ensures, b .if1 .taken) refl)
 
 pub unmarked-arrives-spec : {M : Type 1} → statement M
 unfolding unmarked

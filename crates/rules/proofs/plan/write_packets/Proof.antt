@@ -1,4 +1,4 @@
-use Rattle.rules.proofs.Base.{_∙_, [], _∷_, ⊎-elim, arith, needs, add-one, take-all, some-of-two, all-of-two, lays-none, lays-one}
+use Rattle.rules.proofs.Base.{_∙_, ⊎-elim, arith, needs, some-of-two, all-of-two, lays-none, lays-one, lays-two}
 use Rattle.rules.proofs.plan.write_packets.Statement.{statement}
 use Rattle.rules.proofs.plan.write_packets.Tie as tie
 
@@ -6,7 +6,7 @@ returns : tie.Need-returns
 returns c =
     let s = c .before .before .args in
     ⊎-elim
-    (λ w. rw (w .1, take-all (s .k) (s .p ∷ s .q ∷ []) (omega arith), add-one))
+    (λ w. rw (w .1) (lays-two (s .a) (s .n) (s .k) (s .p) (s .q) (omega (arith, c .if2 .taken))))
     (λ w. absurd (omega (arith, w .0 .left, c .if2 .taken)))
     (c .before .if1 .came)
 
