@@ -65,7 +65,7 @@ module _ (c : Call) (y : Cluster) where
 
     pub made-accepted : p .answer ≡ Accepted → Made c y (p .answer) (stepped .wire .len) written
     made-accepted a =
-        let e = perform-accepts c y l d f g a in
+        let e = perform-accepts c y l d f g a refl in
         let w : wellFormed written ≡ true = rw (ap (λ (o : Outcome). o .cluster) e) (perform-formed c y (f .0)) in
         made-by e (counted written stepped w (getD-set-same (y .locks) (l .0) stepped freshLock (omega (arith, all-locks y (f .0), f .1 .0))))
 
