@@ -1,54 +1,58 @@
--- Records of a transcript: where one ends, and what the run, its listing and its calls are from one on.
-use mathlib.Core.Path.{_≡_, refl}
-use mathlib.Core.Bool.{Bool, true, false, _&&_}
+-- Records of a transcript: where one ends, its kind, and what the run, its listing and its calls are from one on.
+use mathlib.Core.Path.{_≡_, sym}
+use mathlib.Core.Bool.{_&&_}
 use mathlib.Core.List.{List, [], _∷_, _++_}
 use Prim.Native.Nat.{ℕ, suc, _+_, _-_, _≤_}
 use native.Mathlib.Omega.{arith}
 use lib.ListN.{length}
 use lib.Dec.{eqb, leb, ltb}
-use borrow.Author.Tests.{leb-true, leb-false, le-leb}
+use borrow.Author.Tests.{eqb-true, leb-true, leb-false, le-leb}
 use Rattle.laws.specs.Names.{Cluster, Call, Accepted, Refused}
 use Rattle.model.specs.declared.Refusal.the-variants.{BadRecord}
 use Rattle.model.specs.declared.Replayed.{Replayed}
 use Rattle.model.specs.declared.Reading.{Reading}
 use Rattle.model.specs.declared.Reading.the-variants.{Record, Bad, End}
-use Rattle.model.specs.Lists.{pick}
 use Rattle.model.specs.Calls.{perform}
 use Rattle.model.specs.Transcripts.{short, acquireAt, releaseAt, deliverAt, wholeRecord, readRecord, replayed, replayFrom, callsFrom}
-use Rattle.model.specs.Listing.{rowOf, lineOf, refusedLine, linesFrom}
-use Rattle.laws.specs.Tests.{and-right}
+use Rattle.model.specs.Listing.{kindOf, rowOf, lineOf, refusedLine, linesFrom}
+use Rattle.laws.specs.Tests.{and-right, pick-by}
 
--- ---- a record has at least six bytes, and ends within the transcript
+-- ---- a record has at least six bytes, ends within the transcript, and is of its call's kind
 data Ends (bytes : List ℕ) (i : ℕ) : Reading → Type 0 where
-  inside : {c : Call} {j : ℕ} → i + 6 ≤ j → j ≤ length bytes → Ends bytes i (Record c j)
+  inside : {c : Call} {j : ℕ} → i + 6 ≤ j → j ≤ length bytes → kindOf c ≡ short bytes (i + 2) → Ends bytes i (Record c j)
   bad : Ends bytes i Bad
   end : Ends bytes i End
 
-ends-if : {bytes : List ℕ} {i : ℕ} (b : Bool) {r t : Reading} → (b ≡ true → Ends bytes i r) → (b ≡ false → Ends bytes i t)
-    → Ends bytes i (pick b r t)
-ends-if true f g = f refl
-ends-if false f g = g refl
+module _ (bytes : List ℕ) (i : ℕ) where
+  whole-ends : (n : ℕ) (c : Call) → 6 ≤ n → i ≤ length bytes → kindOf c ≡ short bytes (i + 2) → Ends bytes i (wholeRecord n bytes i c)
+  whole-ends n c h k q =
+      pick-by (Ends bytes i) (eqb (short bytes i) n && leb n (length bytes - i))
+      (λ e. let m : n ≤ length bytes - i = leb-true n _ (and-right (eqb (short bytes i) n) _ e) in inside (omega arith) (omega arith) q) (λ e. bad)
 
-whole-ends : (n : ℕ) (bytes : List ℕ) (i : ℕ) (c : Call) → 6 ≤ n → i ≤ length bytes → Ends bytes i (wholeRecord n bytes i c)
-whole-ends n bytes i c h k =
-    ends-if (eqb (short bytes i) n && leb n (length bytes - i))
-    (λ e. let m : n ≤ length bytes - i = leb-true n _ (and-right (eqb (short bytes i) n) _ e) in inside (omega arith) (omega arith)) (λ e. bad)
+  reading-ends : Ends bytes i (readRecord bytes i)
+  unfolding readRecord
+  reading-ends =
+      let P = Ends bytes i in
+      let kind = short bytes (i + 2) in
+      pick-by P (leb (length bytes) i) (λ e. end) (λ e.
+      let h : i ≤ length bytes = omega (arith, leb-false (length bytes) i e) in
+      pick-by P (ltb (length bytes - i) 4) (λ e. bad) (λ e.
+      pick-by P (eqb kind 1) (λ e. whole-ends 8 (acquireAt bytes i) (omega arith) h (sym (eqb-true kind 1 e))) (λ e.
+      pick-by P (eqb kind 2) (λ e. whole-ends 7 (releaseAt bytes i) (omega arith) h (sym (eqb-true kind 2 e))) (λ e.
+      pick-by P (eqb kind 3) (λ e. whole-ends 6 (deliverAt bytes i) (omega arith) h (sym (eqb-true kind 3 e))) (λ e. bad)))))
 
-reading-ends : (bytes : List ℕ) (i : ℕ) → Ends bytes i (readRecord bytes i)
-unfolding readRecord
-reading-ends bytes i =
-    ends-if (leb (length bytes) i) (λ e. end) (λ e.
-    let h : i ≤ length bytes = omega (arith, leb-false (length bytes) i e) in
-    ends-if (ltb (length bytes - i) 4) (λ e. bad) (λ e.
-    ends-if (eqb (short bytes (i + 2)) 1) (λ e. whole-ends 8 bytes i (acquireAt bytes i) (omega arith) h) (λ e.
-    ends-if (eqb (short bytes (i + 2)) 2) (λ e. whole-ends 7 bytes i (releaseAt bytes i) (omega arith) h) (λ e.
-    ends-if (eqb (short bytes (i + 2)) 3) (λ e. whole-ends 6 bytes i (deliverAt bytes i) (omega arith) h) (λ e. bad)))))
+  module _ (c : Call) (j : ℕ) (e : readRecord bytes i ≡ Record c j) where
+    pub record-ends : (i + 6 ≤ j) × (j ≤ length bytes)
+    record-ends = go (rw e at reading-ends)
+      where
+        go : Ends bytes i (Record c j) → (i + 6 ≤ j) × (j ≤ length bytes)
+        go (inside h k q) = (h, k)
 
-pub record-ends : (bytes : List ℕ) (i : ℕ) (c : Call) (j : ℕ) → readRecord bytes i ≡ Record c j → (i + 6 ≤ j) × (j ≤ length bytes)
-record-ends bytes i c j e = go (rw e at (reading-ends bytes i))
-  where
-    go : Ends bytes i (Record c j) → (i + 6 ≤ j) × (j ≤ length bytes)
-    go (inside h k) = (h, k)
+    pub record-kind : kindOf c ≡ short bytes (i + 2)
+    record-kind = go (rw e at reading-ends)
+      where
+        go : Ends bytes i (Record c j) → kindOf c ≡ short bytes (i + 2)
+        go (inside h k q) = q
 
 pub end-at : (bytes : List ℕ) (i : ℕ) → length bytes ≤ i → readRecord bytes i ≡ End
 unfolding readRecord

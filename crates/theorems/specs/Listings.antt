@@ -5,7 +5,7 @@ use Prim.Native.Nat.{_/_}
 use Rattle.model.specs.Refusals.{_when_, first}
 use Rattle.model.specs.Transcripts.{readRecord, replayFrom, replayUnless, replayTests, replay, callsFrom}
 use Rattle.model.specs.Listing.{Row, rowOf, digit, digitOf, decimal, header, wireColumn, lineOf, refusedLine, linesFrom, linesUnless, listing}
-use Rattle.laws.specs.Records.{record-ends, end-at, at-record, at-bad, at-end}
+use Rattle.laws.specs.Records.{record-ends, record-kind, end-at, at-record, at-bad, at-end}
 use Rattle.theorems.specs.Names.{Cluster, Call, Refusal, Answer, Accepted, Refused, _≡_, refl, sym, ap, _∙_, List, [], _∷_, _++_, map, ℕ, zero, suc, _+_}
 use Rattle.theorems.specs.Names.{_-_, _*_, _≤_, arith, Bool, true, false, not, pick, eqb, ltb, ltb-false, length, length-append, perform, run}
 use Rattle.theorems.specs.Names.{answersOf, number, refusalNumber, wellFormed, Malformed, TranscriptLength, BadRecord}
@@ -134,4 +134,5 @@ listing-short x bytes = go (wellFormed x) (ltb 65535 (length bytes)) refl
 
 pub lists-all : (x : Cluster) (bytes : List ℕ) → ListsAll x bytes
 unfolding replay replayUnless listing linesUnless
-lists-all x bytes = record { tested = tested x bytes; refused = λ r e. (rw e, rw e); short = listing-short x bytes }
+lists-all x bytes =
+    record { tested = tested x bytes; refused = λ r e. (rw e, rw e); kinds = record-kind bytes; fits = listing-short x bytes }

@@ -3,8 +3,9 @@
 use Rattle.model.specs.Drain.{allowance, Quiescent, drainCalls, drain}
 use Rattle.model.specs.Trace.{isAccepted, grantsIn}
 use Rattle.model.specs.Refusals.{first}
-use Rattle.model.specs.Transcripts.{replayTests, replayed, replay, callsOf}
-use Rattle.model.specs.Listing.{Row, rowOf, header, lineOf, refusedLine, listing}
+use Rattle.model.specs.declared.Reading.the-variants.{Record}
+use Rattle.model.specs.Transcripts.{short, readRecord, replayTests, replayed, replay, callsOf}
+use Rattle.model.specs.Listing.{Row, kindOf, rowOf, header, lineOf, refusedLine, listing}
 use Rattle.theorems.specs.Names.{LockId, ClientId, Mode, Exclusive, Status, Waiting, Holding, Cluster, Call, Refusal, Answer, Accepted, Refused, _≡_}
 use Rattle.theorems.specs.Names.{true, List, [], _∷_, ℕ, _≤_, _<_, length, eqb, leb, all, statusOf, lockIn, packets, freshLock, fresh, wellFormed}
 use Rattle.theorems.specs.Names.{current, packetAt, run, answersOf, perform, lockOf, number, phaseAfter, _+_, _-_, _*_, locks, clients, wireCapacity}
@@ -106,12 +107,14 @@ pub record Listed (x : Cluster) (bytes : List ℕ) : Type 0 where
 abbrev pub longestListing : ℕ
 longestListing = 19 + (4 * 65535 + 24)
 
--- One that does not has a line with the number 0 and its refusal's. No listing is longer than the buffer of the program.
+-- One that does not has a line with the number 0 and its refusal's. The kind that a line tells is that of the record, and no listing is longer than the
+-- buffer of the program.
 pub record ListsAll (x : Cluster) (bytes : List ℕ) : Type 0 where
   pub tested : first (replayTests x bytes) ≡ Accepted → Listed x bytes
   pub refused : (r : Refusal) → first (replayTests x bytes) ≡ Refused r
       → (replay x bytes ≡ replayed (Refused r) 0 x) × (listing x bytes ≡ header ++ refusedLine 0 r)
-  pub short : length (listing x bytes) ≤ longestListing
+  pub kinds : (i : ℕ) (c : Call) (j : ℕ) → readRecord bytes i ≡ Record c j → kindOf c ≡ short bytes (i + 2)
+  pub fits : length (listing x bytes) ≤ longestListing
 
 -- Eight bits do for an incarnation: a wire never has as many as 256 marks, so a carried agent's is the decider's exactly where it has none.
 pub record IncarnationSound (cs : List Call) : Type 0 where
