@@ -7,7 +7,7 @@
     STEP = ANSWER              a step as ./assemble takes it, and its answer
     after STATE                the lock's state after it; without this line it is as before
     end RECORDS = ANSWER DRAINS   the last line of inspect, with the drains whose count is not 0 as {"LOCK":COUNT}, or {"LOCK":[COUNT,ANSWER]}
-    > TEXT                     a line that the command should write
+    > TEXT                     a line that the command should write; a case without text is only run
 
 A line that begins with a blank goes on with the one before it. A STATE is written as in docs/inspect.md, with these shorter forms: whatever is as in a fresh
 lock, null, false, empty or 0 is left out; the decider is [MODE,MACHINE,INCARNATION]; agents and clients are given by number, a client as [STATUS,MODE] and a
