@@ -1,11 +1,16 @@
 """Why a step was refused: a sentence for each answer of docs/protocol.md, from the record and the state that it met."""
 from desk.lines import CLIENTS, LOCKS, MACHINES, WIRE
-from desk.words import client, count, packet, status
+from desk.words import MODES, client, count, packet, status
 
 
 def caller(step):
     """The client of an acquire or a release as the state has it."""
     return step.after["clients"][step.client]
+
+
+def no_mode(step):
+    step.need(step.line["mode"] not in MODES)
+    return f"Mode {step.line['mode']} is neither 2, exclusive, nor 3, shared."
 
 
 def not_idle(step):
@@ -66,7 +71,7 @@ REASONS = {
     1: lambda step: f"There is no lock {step.line['lock']}: the locks are 0 to {LOCKS - 1}.",
     2: lambda step: f"There is no machine {step.line['machine']}: the machines are 0 to {MACHINES - 1}.",
     3: lambda step: f"There is no task {step.line['task']}: the tasks of a machine are 0 to {CLIENTS // MACHINES - 1}.",
-    4: lambda step: f"Mode {step.line['mode']} is neither 2, exclusive, nor 3, shared.",
+    4: no_mode,
     5: not_idle,
     6: still_named,
     7: not_holding,

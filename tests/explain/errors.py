@@ -58,20 +58,15 @@ NOT_LINES = [
     (lines(after(1, "acquire 0 0/0 shared", '{"wire":[{"kind":"ACQUIRE","client":16,"mode":3}]}'), end_of("1 = 0 {}")), FIRST),
     (lines(after(1, "acquire 0 0/0 shared", '{"wire":[{"kind":"FREE","mode":3}]}'), end_of("1 = 0 {}")), FIRST),
     (lines(after(1, "acquire 0 0/0 shared", '{"decider":[0,1,0]}'), end_of("1 = 0 {}")), FIRST),
+    (lines(after(1, "acquire 0 0/0 shared", '{"clients":{"0":["idle",3]}}'), end_of("1 = 0 {}")), FIRST),
+    (lines(after(1, "acquire 0 0/0 shared", '{"agents":{"0":{"mode":3,"holders":[1,0]}}}'), end_of("1 = 0 {}")), FIRST),
+    (lines({**numbered(1, "release 0 0/0", 7), "state": None}, end_of("1 = 0 {}")), FIRST),
+    (lines({**numbered(1, "deliver 0 0", 8), "state": None}, end_of("1 = 0 {}")), FIRST),
     (lines(after(1, "deliver 0 0", '{}'), end_of("1 = 0 {}")), FOLLOWS),
     (lines(refused(1), after(2, "deliver 0 1", '{"decider":[3,0,0]}', 8), end_of("2 = 0 {}")), FOLLOWS.replace("1", "2", 1)),
 ]
 
-# lines that explain alone looks at closely enough
-NO_RULE = [
-    lines(after(1, "acquire 0 0/0 shared", "{}"), end_of("1 = 0 {}")),
-    lines(after(1, "acquire 0 0/0 shared", '{"wire":[{"kind":"RELEASE","client":0}]}'), end_of("1 = 0 {}")),
-    lines(after(1, "acquire 0 0/0 shared", '{"decider":[3,0,0],"wire":[{"kind":"ACQUIRE","client":0,"mode":3}]}'), end_of("1 = 0 {}")),
-    lines(after(1, "acquire 0 0/0 shared", "{}", 5), end_of("1 = 0 {}")),
-    lines(after(1, "acquire 0 4/0 shared", "{}", 3), end_of("1 = 0 {}")),
-    lines(after(1, "deliver 0 0", '{"wire":[{"kind":"RELEASE","client":0}]}', 8), end_of("1 = 0 {}")),
-]
-
+NO_LOCK = lines({**numbered(1, "deliver 7 0", 1), "state": None}, end_of("1 = 0 {}"))
 LONG = lines(*(refused(number) for number in range(1, 62)), end_of("61 = 0 {}"))
 INSPECT = "(usage: inspect [TRANSCRIPT])"
 
@@ -82,7 +77,7 @@ ERRORS = [
     *(([f"./{name}", "--unknown"], b"", f"{name}: unrecognized arguments: --unknown (see {name} --help)") for name in ("explain", "picture")),
     *(([f"./{name}", "one", "two"], b"", f"{name}: unrecognized arguments: two (see {name} --help)") for name in ("explain", "picture")),
     *(([f"./{name}", "--lines"], given, f"{name}: {wrong}") for name in ("explain", "picture") for given, wrong in NOT_LINES),
-    *((["./explain", "--lines"], given, f"explain: {FOLLOWS}") for given in NO_RULE),
+    (["./explain", "--lines"], NO_LOCK, f"explain: {FOLLOWS}"),
     (["./picture", "--lines", "--lock", "8"], LONG, "picture: argument --lock: invalid choice: 8 (choose from 0, 1, 2, 3, 4, 5, 6, 7) (see picture --help)"),
     (["./picture", "--lines", "--lock", "x"], LONG, "picture: argument --lock: invalid int value: 'x' (see picture --help)"),
     (["./picture", "--lines"], LONG, "picture: lock 0 has 61 steps, and a picture shows at most 60"),
