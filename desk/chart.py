@@ -1,0 +1,85 @@
+"""What a picture of one lock shows, by rows: a row for each step, and behind them one for each packet still on the wire at the end."""
+from dataclasses import dataclass, field
+
+from desk.lines import CLIENTS, MACHINES
+from desk.rules import sent_back
+from desk.step import steps
+
+
+@dataclass
+class Flight:
+    """A packet on its way, from the row that sent it to the row that delivered it."""
+
+    packet: dict
+    sender: int  # a machine's number; None for the decider
+    begin: int
+    back: bool  # whether a machine sent it back to the decider
+    end: int = None
+    delivered: bool = False
+
+
+@dataclass
+class Span:
+    """A client that waits or holds, or an agent that is on a machine, from a row to a row; the last row where it goes on to the end."""
+
+    what: object
+    begin: int
+    end: int = None
+
+
+@dataclass
+class Chart:
+    lock: int
+    steps: list = field(default_factory=list)
+    flights: list = field(default_factory=list)
+    left: list = field(default_factory=list)  # the flights still on the wire at the end, by index
+    clients: list = field(default_factory=lambda: [[] for _ in range(CLIENTS)])  # the spans of each client
+    agents: list = field(default_factory=lambda: [[] for _ in range(MACHINES)])  # the spans of the agent on each machine
+
+    def rows(self):
+        return len(self.steps) + len(self.left)
+
+
+def change(spans, old, new, row, idle):
+    """Ends the span of what was, and begins one of what is."""
+    if old == new:
+        return
+    if old != idle:
+        spans[-1].end = row
+    if new != idle:
+        spans.append(Span(new, row))
+
+
+def add_spans(chart, step, row):
+    for spans, old, new in zip(chart.clients, step.before["clients"], step.after["clients"]):
+        change(spans, old, new, row, {"status": "idle", "mode": None})
+    for spans, old, new in zip(chart.agents, step.before["agents"], step.after["agents"]):
+        change(spans, old is not None, new is not None, row, False)
+
+
+def add_flights(chart, step, row):
+    """Takes out what the step delivered, and puts what it sent at the end."""
+    if step.packet:
+        flight = chart.left.pop(step.line["index"])
+        flight.end, flight.delivered = row, True
+    back = step.packet is not None and step.machine is not None and sent_back(step)
+    sent = [Flight(packet, step.machine, row, back) for packet in step.sent]
+    chart.flights += sent
+    chart.left += sent
+
+
+def chart_of(lock, lines):
+    """The chart of a lock from the lines of inspect."""
+    chart = Chart(lock)
+    for step in steps(lines):
+        if isinstance(step, dict) or step.line["lock"] != lock:
+            continue
+        step.need(len(step.before["wire"]) == len(chart.left))
+        row = len(chart.steps)
+        chart.steps.append(step)
+        if not step.line["answer"]:
+            add_spans(chart, step, row)
+            add_flights(chart, step, row)
+    for number, flight in enumerate(chart.left):
+        flight.end = len(chart.steps) + number
+    return chart

@@ -1,0 +1,100 @@
+"""explain: what each step of a transcript did, in words, from the lines that inspect writes."""
+from desk.command import Options, run
+from desk.refusals import reason
+from desk.rules import said
+from desk.step import steps
+from desk.words import MODES, agent, client, count, decider, packet, place, status
+
+INDENT = "   "
+
+
+def asked(line):
+    """What an acquire, a release or a refused delivery asked for, with the record's bytes as they are."""
+    lock = f"lock {line['lock']}"
+    if line["kind"] == "deliver":
+        return f"Index {line['index']} of {lock} is delivered"
+    who = f"Client {line['machine']}/{line['task']}"
+    if line["kind"] == "release":
+        return f"{who} releases {lock}"
+    return f"{who} acquires {lock}, {MODES.get(line['mode'], 'mode ' + str(line['mode']))}"
+
+
+def delivered(step):
+    """What an accepted delivery brought, and where."""
+    if step.packet is None:
+        return ""
+    return f" to {place(step.packet['to'])}, {packet(step.packet)}"
+
+
+def changes(step):
+    """Who holds, waits or is idle now, and what the agents that changed have now."""
+    pairs = zip(step.before["clients"], step.after["clients"])
+    for number, (old, new) in enumerate(pairs):
+        if old != new:
+            yield f"{client(number)} {status(new, ' now')}."
+    for machine, (old, new) in enumerate(zip(step.before["agents"], step.after["agents"])):
+        if new is not None and old != new:
+            yield f"Agent on machine {machine}: {agent(new)}."
+
+
+def explained(step):
+    """A step's lines: what was asked, with the answer, and what came of it."""
+    begun = f"{step.line['n']}. {asked(step.line)}"
+    if step.line["answer"]:
+        return [f"{begun}: refused, {step.line['answer']}.", f"{INDENT}{reason(step)}", f"{INDENT}Nothing moved."]
+    sentences = [*said(step), *changes(step)]
+    return [f"{begun}{delivered(step)}: accepted.", *(INDENT + sentence for sentence in sentences)]
+
+
+def on_wire(number, one):
+    inside = f" ({agent(one['agent'])})" if one["agent"] else ""
+    return f"{number}: {packet(one)}{inside}, to {place(one['to'])}"
+
+
+def table(state):
+    """The whole state of a lock."""
+    agents = [f"machine {machine}: {agent(one)}" for machine, one in enumerate(state["agents"]) if one]
+    busy = [f"{client(number)} {status(one)}" for number, one in enumerate(state["clients"]) if one["mode"]]
+    wire = [on_wire(number, one) for number, one in enumerate(state["wire"])]
+    parts = [("decider", [decider(state["decider"])]), ("agents", agents or ["none on a machine"]),
+             ("clients", ["; ".join(busy) or "all idle"]), ("wire", wire or ["empty"])]
+    for name, rows in parts:
+        for number, row in enumerate(rows):
+            yield f"{INDENT}| {'' if number else name:8}| {row}"
+
+
+def ended(end):
+    """How the transcript ended."""
+    if end["end"] == "too long":
+        return "The transcript has more than 65,535 bytes: answer 13. No record of it was run."
+    if end["end"] == "end":
+        return f"The transcript was read to its end: {count(end['records'], 'record')}."
+    hint = " Is it a .steps file? ./assemble makes a transcript of it." if end["records"] == 1 else ""
+    return f"Record {end['records']} is bad: answer 12. Reading stopped there, after {count(end['records'] - 1, 'record')}.{hint}"
+
+
+def drained(end):
+    """What a drain of each lock would come to, from the last state."""
+    left = [drain for drain in end["drains"] if drain["answer"] or drain["count"]]
+    if not left:
+        return ["Nothing is left to drain: every lock is quiescent, with no packet and no holder."]
+    return [f"A drain of lock {drain['lock']} from here is refused: answer {drain['answer']}." if drain["answer"]
+            else f"A drain of lock {drain['lock']} from here takes {count(drain['count'], 'step')}." for drain in left]
+
+
+def text(options, lines):
+    out = []
+    for step in steps(lines):
+        if isinstance(step, dict):
+            out += [ended(step), *drained(step)]
+            continue
+        out += explained(step)
+        if options.state and step.after:
+            out += table(step.after)
+    return "\n".join(out) + "\n"
+
+
+def main():
+    parser = Options("explain", "Says in words what each step of a transcript did, who holds and who waits.")
+    parser.add_argument("--state", action="store_true", help="after each step a table of its lock: decider, agents, clients that are not idle, wire")
+    run(parser, text)

@@ -1,0 +1,126 @@
+"""The lines that `inspect` writes, as docs/inspect.md has them: each is read, held to its form, and given as a dictionary."""
+import json
+
+LOCKS, MACHINES, CLIENTS, WIRE = 8, 4, 16, 33
+ANSWERS = {"acquire": (0, 1, 2, 3, 4, 5, 6, 9, 10, 11), "release": (0, 1, 2, 3, 7, 9, 10, 11), "deliver": (0, 1, 8, 9, 10, 11)}
+ENDS = {"end": 0, "bad record": 12, "too long": 13}
+
+
+class NotLines(Exception):
+    """What was read is not what `inspect` writes."""
+
+
+def number(most):
+    return lambda value: type(value) is int and 0 <= value <= most
+
+
+def one_of(*values):
+    return lambda value: any(type(value) is type(one) and value == one for one in values)
+
+
+def or_null(test):
+    return lambda value: value is None or test(value)
+
+
+def rows(test, count=None):
+    return lambda value: type(value) is list and count in (None, len(value)) and all(map(test, value))
+
+
+def thing(name):
+    """An object of that name: its fields, in order, and what goes for all of it."""
+    return lambda value: (type(value) is dict and list(value) == list(FORMS[name])
+                          and all(test(value[field]) for field, test in FORMS[name].items())
+                          and WHOLE.get(name, lambda whole: True)(value))
+
+
+BYTE, CLIENT, MODE, FLAG = number(255), number(CLIENTS - 1), one_of(2, 3), one_of(True, False)
+
+
+def record(kind, *fields):
+    """A record's line: its number and kind, its bytes, the answer and the state."""
+    return {"n": number(65535), "kind": one_of(kind), **{field: BYTE for field in fields},
+            "answer": one_of(*ANSWERS[kind]), "state": or_null(thing("state"))}
+
+
+FORMS = {
+    "acquire": record("acquire", "lock", "machine", "task", "mode"),
+    "release": record("release", "lock", "machine", "task"),
+    "deliver": record("deliver", "lock", "index"),
+    "state": {"decider": thing("decider"), "agents": rows(or_null(thing("agent")), MACHINES),
+              "clients": rows(thing("client"), CLIENTS), "wire": rows(thing("packet"))},
+    "decider": {"mode": one_of(0, 2, 3), "machine": or_null(number(MACHINES - 1)), "incarnation": BYTE},
+    "agent": {"mode": MODE, "holders": rows(CLIENT), "queue": rows(thing("waiter")), "incarnation": BYTE},
+    "waiter": {"client": CLIENT, "mode": MODE},
+    "client": {"status": one_of("idle", "waiting", "holding"), "mode": or_null(MODE)},
+    "packet": {"kind": one_of("ACQUIRE", "GRANT", "RELEASE", "FREE"), "to": or_null(number(MACHINES - 1)), "client": or_null(CLIENT),
+               "mode": or_null(MODE), "granted": FLAG, "rejected": FLAG, "agent": or_null(thing("agent"))},
+    "end": {"end": one_of(*ENDS), "answer": one_of(*ENDS.values()), "records": number(65535), "drains": rows(thing("drain"), LOCKS)},
+    "drain": {"lock": number(LOCKS - 1), "answer": one_of(0, 9, 10, 11, 14), "count": number(16384)},
+}
+
+
+def whole_packet(packet):
+    """What a packet of its kind has, and what it does not have."""
+    kind, carries = packet["kind"], packet["agent"] is not None
+    return ((packet["client"] is None) == (kind == "FREE") and (packet["mode"] is None) == (kind in ("FREE", "RELEASE"))
+            and (not packet["granted"] or kind == "ACQUIRE") and (not packet["rejected"] or carries and packet["to"] is not None)
+            and (carries if kind == "FREE" else not carries or kind == "GRANT"))
+
+
+def whole_record(line):
+    """There is a state exactly where there is such a lock."""
+    return (line["state"] is None) == (line["answer"] == 1)
+
+
+WHOLE = {
+    "acquire": whole_record, "release": whole_record, "deliver": whole_record, "packet": whole_packet,
+    "decider": lambda decider: (decider["mode"] == 0) == (decider["machine"] is None),
+    "client": lambda client: (client["status"] == "idle") == (client["mode"] is None),
+    "agent": lambda agent: agent["holders"] == sorted(set(agent["holders"])),
+    "end": lambda end: end["answer"] == ENDS[end["end"]] and [drain["lock"] for drain in end["drains"]] == list(range(LOCKS)),
+}
+
+
+def fresh():
+    """The state of a lock at the beginning."""
+    return {"decider": {"mode": 0, "machine": None, "incarnation": 0}, "agents": [None] * MACHINES,
+            "clients": [{"status": "idle", "mode": None} for _ in range(CLIENTS)], "wire": []}
+
+
+def name_of(line):
+    """Which object a line should be: a record's kind, or the end."""
+    if type(line) is not dict:
+        return None
+    kind = line.get("kind") if "kind" in line else "end"
+    return kind if kind in (*ANSWERS, "end") else None
+
+
+def parsed(text):
+    """A line's object, or None where it is none that `inspect` writes."""
+    try:
+        line = json.loads(text)
+        name = name_of(line)
+    except (ValueError, TypeError, RecursionError):
+        return None
+    return line if name and thing(name)(line) else None
+
+
+def in_order(line, number):
+    """Records are numbered from 1, and the end says how many there are, the number of the bad one, or 0."""
+    if "n" in line:
+        return line["n"] == number
+    return line["records"] == {"end": number - 1, "bad record": number, "too long": 0}[line["end"]]
+
+
+def read(texts):
+    """Each line's object in order; the last line, and no other, is the end."""
+    line = None
+    for number, text in enumerate(texts, 1):
+        if line and "end" in line:
+            raise NotLines(f"line {number} stands behind the last line of inspect")
+        line = parsed(text)
+        if line is None or not in_order(line, number):
+            raise NotLines(f"line {number} is not one that inspect writes (docs/inspect.md)")
+        yield line
+    if line is None or "end" not in line:
+        raise NotLines("the last line of inspect is missing (docs/inspect.md)")

@@ -1,0 +1,98 @@
+"""Why a step was refused: a sentence for each answer of docs/protocol.md, from the record and the state that it met."""
+from desk.lines import CLIENTS, LOCKS, MACHINES, WIRE
+from desk.words import MODES, client, count, packet, status
+
+
+def caller(step):
+    """The client of an acquire or a release as the state has it."""
+    return step.after["clients"][step.client]
+
+
+def no_mode(step):
+    step.need(step.line["mode"] not in MODES)
+    return f"Mode {step.line['mode']} is neither 2, exclusive, nor 3, shared."
+
+
+def not_idle(step):
+    step.need(caller(step)["status"] != "idle")
+    return f"The client is not idle: it {status(caller(step))}."
+
+
+def still_named(step):
+    """Which packets are of the client, by index."""
+    named = [f"index {index}, {packet(one)}" for index, one in enumerate(step.after["wire"]) if one["client"] == step.client]
+    step.need(named)
+    which = "a packet on the wire is" if len(named) == 1 else f"{len(named)} packets on the wire are"
+    return f"The client is idle, but {which} still of it: {'; '.join(named)}."
+
+
+def not_holding(step):
+    step.need(caller(step)["status"] != "holding")
+    return f"The client does not hold: it {status(caller(step))}."
+
+
+def no_packet(step):
+    packets, index = len(step.after["wire"]), step.line["index"]
+    step.need(index >= packets)
+    there = "the wire is empty" if not packets else f"the wire has {count(packets, 'packet')}, and indexes count from 0"
+    return f"There is no packet at index {index}: {there}."
+
+
+def no_place(step):
+    """Which of the causes of answer 9 it is."""
+    if step.line["kind"] != "deliver":
+        return "There is no place for what comes: " + queue_refuses(step, step.after["agents"][step.machine], step.client)
+    step.need(step.line["index"] < len(step.after["wire"]))
+    comes = step.after["wire"][step.line["index"]]
+    begun = f"There is no place for what comes, {packet(comes)}: "
+    if comes["to"] is None:
+        return begun + "the lock is free and has no owner to send it to."
+    there = step.after["agents"][comes["to"]]
+    if there is not None and comes["agent"] is not None:
+        return begun + f"machine {comes['to']} has an agent already."
+    if there is not None and comes["granted"] and there["mode"] == 2:
+        return begun + f"the agent on machine {comes['to']} is exclusive and takes no marked ACQUIRE."
+    return begun + queue_refuses(step, there or comes["agent"], comes["client"])
+
+
+def queue_refuses(step, agent, number):
+    """Why a client cannot join an agent's queue, or go back to it."""
+    step.need(agent is not None and number is not None)
+    if any(waiter["client"] == number for waiter in agent["queue"]):
+        return f"{client(number)} stands in the agent's queue already."
+    return f"the agent's queue has {count(len(agent['queue']), 'client')}, and {CLIENTS} is the most."
+
+
+def no_room(step):
+    return f"The wire has no room for what is sent: it has {count(len(step.after['wire']), 'packet')}, and {WIRE} is the most."
+
+
+REASONS = {
+    1: lambda step: f"There is no lock {step.line['lock']}: the locks are 0 to {LOCKS - 1}.",
+    2: lambda step: f"There is no machine {step.line['machine']}: the machines are 0 to {MACHINES - 1}.",
+    3: lambda step: f"There is no task {step.line['task']}: the tasks of a machine are 0 to {CLIENTS // MACHINES - 1}.",
+    4: no_mode,
+    5: not_idle,
+    6: still_named,
+    7: not_holding,
+    8: no_packet,
+    9: no_place,
+    10: no_room,
+    11: lambda step: "The cluster is malformed: it breaks a bound of docs/protocol.md.",
+}
+
+
+def in_range(step):
+    """Whether the record's bytes are in range as far as its answer says that they are."""
+    answer, line = step.line["answer"], step.line
+    if answer == 11:
+        return True
+    limits = [("lock", LOCKS, 1), ("machine", MACHINES, 2), ("task", CLIENTS // MACHINES, 3)]
+    return all((line[field] >= most) if answer == cause else (answer < cause or line[field] < most)
+               for field, most, cause in limits if field in line)
+
+
+def reason(step):
+    """Why a step was refused, in words."""
+    step.need(in_range(step))
+    return REASONS[step.line["answer"]](step)

@@ -1,0 +1,204 @@
+"""What each rule of docs/protocol.md did in a step: its sentences, from the packet, what was sent, and the states before and after."""
+from desk.words import MODES, client, packet
+
+
+def at(step, number=0):
+    """Where a packet that was sent stands on the wire."""
+    return f"at index {step.first + number}"
+
+
+def agent_before(step):
+    return step.before["agents"][step.machine]
+
+
+def agent_after(step):
+    return step.after["agents"][step.machine]
+
+
+def sent_one(step, kind, to):
+    """The only packet sent, which must be of this kind and go there."""
+    step.need(len(step.sent) == 1 and step.sent[0]["kind"] == kind and step.sent[0]["to"] == to)
+    return step.sent[0]
+
+
+def stands_in(agent, number):
+    return agent is not None and any(waiter["client"] == number for waiter in agent["queue"])
+
+
+def lists(agent, number):
+    return agent is not None and number in agent["holders"]
+
+
+# At a client.
+
+def client_acquires(step):
+    if step.sent:
+        asked = sent_one(step, "ACQUIRE", None)
+        return [f"Machine {step.machine} has no agent: {packet(asked)}, goes to the decider, {at(step)}."]
+    if lists(agent_after(step), step.client):
+        return [f"Agent and request are shared: the agent on machine {step.machine} lists it, and it holds at once."]
+    step.need(stands_in(agent_after(step), step.client))
+    return [f"It goes to the end of the queue of the agent on machine {step.machine}."]
+
+
+def client_releases(step):
+    if lists(agent_before(step), step.client):
+        return strikes_off(step)
+    released = sent_one(step, "RELEASE", None)
+    return [f"{not_listed(step)}: {packet(released)} goes to the decider, {at(step)}."]
+
+
+def not_listed(step):
+    """Why an agent cannot strike the client off."""
+    if agent_before(step) is None:
+        return f"Machine {step.machine} has no agent"
+    return f"The agent on machine {step.machine} does not list {client(step.client)}"
+
+
+def strikes_off(step):
+    """An agent strikes a holder off, and leaves where it was the last."""
+    begun = f"The agent on machine {step.machine} strikes {client(step.client)} off"
+    if agent_after(step) is not None:
+        step.need(not step.sent and not lists(agent_after(step), step.client))
+        return [f"{begun} and stays."]
+    step.need(len(step.sent) == 1 and step.sent[0]["agent"] is not None)
+    if step.sent[0]["kind"] == "FREE":
+        return [f"{begun}, its last holder, and nobody waits: the agent leaves for the decider in a FREE, {at(step)}."]
+    granted = client(step.sent[0]["client"])
+    return [f"{begun}, its last holder: the agent leaves for the decider in a GRANT for {granted}, the first of its queue, {at(step)}."]
+
+
+# At the decider.
+
+def acquire_at_decider(step):
+    old, new = step.before["decider"], step.after["decider"]
+    if old["mode"] == 0:
+        step.need(new["mode"] != 0)
+        granted = sent_one(step, "GRANT", new["machine"])
+        return [f"The lock was free: machine {new['machine']} is its owner now, {MODES[new['mode']]}, and gets a new agent.",
+                f"{packet(granted)}, goes to machine {new['machine']}, {at(step)}."]
+    if len(step.sent) == 2:
+        return granted_at_decider(step)
+    why = "It is marked, so granted already" if step.packet["granted"] else "Lock and request are not both shared"
+    return sent_on(step, why + ": it")
+
+
+def granted_at_decider(step):
+    """A shared request at a shared lock."""
+    grant, marked = step.sent
+    step.need(grant["kind"] == "GRANT" and marked["kind"] == "ACQUIRE" and marked["granted"])
+    return [f"Lock and request are shared: granted on the spot, and the decider counts up to {step.after['decider']['incarnation']}.",
+            f"{packet(grant)}, goes to machine {grant['to']}, {at(step)}; "
+            f"the ACQUIRE, now marked, goes to machine {marked['to']}, the owner, {at(step, 1)}."]
+
+
+def sent_on(step, it):
+    step.decider_is_as_it_was()
+    owner = step.after["decider"]["machine"]
+    step.need(step.sent == [{**step.packet, "to": owner}])
+    return [f"{it} is sent on to machine {owner}, the owner, {at(step)}."]
+
+
+def release_at_decider(step):
+    return sent_on(step, "It")
+
+
+def counts(step):
+    """The incarnations of the agent in the packet and of the decider."""
+    return step.packet["agent"]["incarnation"], step.before["decider"]["incarnation"]
+
+
+def rejected(step):
+    """A FREE or a GRANT with the agent, sent back."""
+    step.decider_is_as_it_was()
+    agents, deciders = counts(step)
+    owner = step.after["decider"]["machine"]
+    step.need(step.sent == [{**step.packet, "to": owner, "rejected": True}])
+    return [f"The agent has counted {agents}, the decider {deciders}: the {step.packet['kind']} is rejected.",
+            f"It goes to machine {owner}, the owner, {at(step)}; nothing else changes."]
+
+
+def free_at_decider(step):
+    if step.sent:
+        return rejected(step)
+    step.need(step.after["decider"]["mode"] == 0)
+    return [f"Agent and decider have both counted {counts(step)[0]}: the lock is free now."]
+
+
+def grant_at_decider(step):
+    if step.packet["agent"] is None:
+        step.decider_is_as_it_was()
+        told = sent_one(step, "GRANT", step.client // 4)
+        return [f"It is sent on to machine {told['to']}, where its client is, {at(step)}."]
+    if step.sent and step.sent[0]["rejected"]:
+        return rejected(step)
+    owner = step.after["decider"]
+    sent_one(step, "GRANT", owner["machine"])
+    return [f"Agent and decider have both counted {counts(step)[0]}: machine {owner['machine']} is the owner now, {MODES[owner['mode']]}.",
+            f"The GRANT with the agent goes to machine {owner['machine']}, {at(step)}; both incarnations are 0 now."]
+
+
+# At a machine.
+
+def grant_at_machine(step):
+    if step.packet["rejected"]:
+        return brought_back(step, f", and {client(step.client)} stands first in its queue again")
+    if step.packet["agent"] is None:
+        step.need(not step.sent)
+        return [f"It makes {client(step.client)} a holder; the agent is not inside."]
+    step.need(lists(agent_after(step), step.client))
+    told = [f"{client(sent['client'])} joins the holders from the queue: {packet(sent)}, goes to the decider, {at(step, number)}."
+            for number, sent in enumerate(step.sent)]
+    return [f"The agent is installed on machine {step.machine}, {MODES[agent_after(step)['mode']]}, and lists {client(step.client)}.", *told]
+
+
+def brought_back(step, more=""):
+    step.need(agent_before(step) is None and agent_after(step) is not None and not step.sent)
+    return [f"The agent is back on machine {step.machine} as it left{more}."]
+
+
+def free_at_machine(step):
+    step.need(step.packet["rejected"])
+    return brought_back(step)
+
+
+def sent_back(step):
+    """An ACQUIRE or a RELEASE that a machine returns as it is."""
+    return step.sent == [{**step.packet, "to": None}]
+
+
+def acquire_at_machine(step):
+    of = client(step.client)
+    if sent_back(step):
+        return [f"Machine {step.machine} has no agent: the {step.packet['kind']} goes back to the decider, unchanged, {at(step)}."]
+    if lists(agent_after(step), step.client) and step.packet["granted"]:
+        return [f"The agent on machine {step.machine} lists {of} and counts up to {agent_after(step)['incarnation']}."]
+    if lists(agent_after(step), step.client):
+        told = sent_one(step, "GRANT", None)
+        return [f"Agent and request are shared: the agent on machine {step.machine} lists {of}.",
+                f"{packet(told)}, goes to the decider, {at(step)}."]
+    step.need(stands_in(agent_after(step), step.client))
+    return [f"{of} goes to the end of the queue of the agent on machine {step.machine}."]
+
+
+def release_at_machine(step):
+    if sent_back(step):
+        return [f"{not_listed(step)}: the RELEASE goes back to the decider, unchanged, {at(step)}."]
+    step.need(lists(agent_before(step), step.client))
+    return strikes_off(step)
+
+
+AT_CLIENT = {"acquire": client_acquires, "release": client_releases}
+AT_DECIDER = {"ACQUIRE": acquire_at_decider, "GRANT": grant_at_decider, "RELEASE": release_at_decider, "FREE": free_at_decider}
+AT_MACHINE = {"ACQUIRE": acquire_at_machine, "GRANT": grant_at_machine, "RELEASE": release_at_machine, "FREE": free_at_machine}
+
+
+def said(step):
+    """The sentences of the rule by which an accepted step went."""
+    if step.packet is None:
+        step.decider_is_as_it_was()
+        return AT_CLIENT[step.line["kind"]](step)
+    if step.packet["to"] is None:
+        return AT_DECIDER[step.packet["kind"]](step)
+    step.decider_is_as_it_was()
+    return AT_MACHINE[step.packet["kind"]](step)

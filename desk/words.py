@@ -1,0 +1,55 @@
+"""The parts of a lock in the words of docs/protocol.md."""
+
+MODES = {2: "exclusive", 3: "shared"}
+STATUSES = {"idle": "is idle", "waiting": "waits", "holding": "holds"}
+
+
+def client(number):
+    return f"{number // 4}/{number % 4}"
+
+
+def clients(numbers):
+    return ", ".join(client(number) for number in numbers)
+
+
+def place(to):
+    """Where a packet goes."""
+    return "the decider" if to is None else f"machine {to}"
+
+
+def count(number, word):
+    return f"{number} {word}" if number == 1 else f"{number} {word}s"
+
+
+def packet(packet):
+    """A packet without its address: its marks, its kind, its client and mode, and whether the agent is inside."""
+    words = ("rejected " if packet["rejected"] else "") + ("marked " if packet["granted"] else "") + packet["kind"]
+    if packet["client"] is not None:
+        words += (" for " if packet["kind"] == "GRANT" else " of ") + client(packet["client"])
+    if packet["mode"] is not None:
+        words += ", " + MODES[packet["mode"]]
+    if packet["agent"] is not None:
+        words += " with the agent" if packet["kind"] == "FREE" else ", with the agent"
+    return words
+
+
+def status(client, when=""):
+    """What a client does: is idle; waits, shared; holds now, exclusive."""
+    words = STATUSES[client["status"]] + when
+    return words if client["mode"] is None else f"{words}, {MODES[client['mode']]}"
+
+
+def queue(waiters):
+    return ", ".join(f"{client(waiter['client'])} {MODES[waiter['mode']]}" for waiter in waiters)
+
+
+def agent(agent):
+    """An agent's mode, holders, queue and incarnation."""
+    holders = f"holders {clients(agent['holders'])}" if agent["holders"] else "no holders"
+    waiters = f"queue {queue(agent['queue'])}" if agent["queue"] else "nobody waits"
+    return f"{MODES[agent['mode']]}; {holders}; {waiters}; incarnation {agent['incarnation']}"
+
+
+def decider(decider):
+    owned = f"{MODES[decider['mode']]}, owner machine {decider['machine']}" if decider["mode"] else "free"
+    return f"{owned}; incarnation {decider['incarnation']}"

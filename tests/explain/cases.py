@@ -1,0 +1,120 @@
+"""The cases of tests/explain: a state, steps with their answers and states, and what should be said of them. In a file NAME.cases each line is one of
+
+    # ..                       a comment
+    case NAME                  begins a case
+    options WORD ..            options for the command
+    given STATE                the state of lock 0 before the first step, where it is not fresh; a refused delivery shows it, as record 1
+    STEP = ANSWER              a step as ./assemble takes it, and its answer
+    after STATE                the lock's state after it; without this line it is as before
+    end RECORDS = ANSWER DRAINS   the last line of inspect, with the drains whose count is not 0 as {"LOCK":COUNT}, or {"LOCK":[COUNT,ANSWER]}
+    > TEXT                     a line that the command should write; a case without text is only run
+
+A line that begins with a blank goes on with the one before it. A STATE is written as in docs/inspect.md, with these shorter forms: whatever is as in a fresh
+lock, null, false, empty or 0 is left out; the decider is [MODE,MACHINE,INCARNATION]; agents and clients are given by number, a client as [STATUS,MODE] and a
+waiter as [CLIENT,MODE]; a packet with "times" stands that often."""
+import json
+
+from desk.lines import FORMS, LOCKS, fresh
+
+KINDS = {"acquire": ["lock", "machine", "task", "mode"], "release": ["lock", "machine", "task"], "deliver": ["lock", "index"]}
+MODES = {"shared": 3, "exclusive": 2}
+ENDS = {0: "end", 12: "bad record", 13: "too long"}
+
+
+class Case:
+    """A case as it is read: the objects of inspect's lines, and the text expected."""
+
+    def __init__(self, name):
+        self.name, self.options, self.objects, self.expected = name, [], [], []
+        self.given = False  # whether record 1 only shows the first state
+        self.states = {}
+
+    def lines(self):
+        """The lines of inspect, with a plain last line where the case has none."""
+        objects = self.objects if "end" in self.objects[-1] else [*self.objects, end_of(f"{len(self.objects)} = 0 {{}}")]
+        return [json.dumps(one, separators=(",", ":")) for one in objects]
+
+    def add_step(self, text, state=None):
+        words, answer = text.rsplit(" = ", 1)
+        step = numbered(len(self.objects) + 1, words, int(answer))
+        lock = step["lock"]
+        if lock < LOCKS:
+            self.states[lock] = state or self.states.get(lock) or fresh()
+        self.objects.append({**step, "state": self.states.get(lock)})
+
+    def put_state(self, state):
+        """The state after the last step."""
+        lock = self.objects[-1]["lock"]
+        self.states[lock] = self.objects[-1]["state"] = state
+
+
+def numbered(number, words, answer):
+    """A record's line, as far as its answer."""
+    kind, *rest = words.split()
+    values = [part for word in rest for part in word.split("/")]
+    fields = zip(KINDS[kind], (MODES.get(value) or int(value) for value in values), strict=True)
+    return {"n": number, "kind": kind, **dict(fields), "answer": answer}
+
+
+def agent_of(short):
+    if short is None:
+        return None
+    queue = [{"client": client, "mode": mode} for client, mode in short.get("queue", [])]
+    return {"mode": short["mode"], "holders": short.get("holders", []), "queue": queue, "incarnation": short.get("incarnation", 0)}
+
+
+def packet_of(short):
+    blank = {"granted": False, "rejected": False}
+    whole = {field: short.get(field, blank.get(field)) for field in FORMS["packet"]}
+    return {**whole, "agent": agent_of(short.get("agent"))}
+
+
+def state_of(text):
+    """A lock's state from its short form."""
+    short, state = json.loads(text), fresh()
+    if "decider" in short:
+        state["decider"] = dict(zip(FORMS["decider"], short["decider"]))
+    for machine, agent in short.get("agents", {}).items():
+        state["agents"][int(machine)] = agent_of(agent)
+    for number, (status, mode) in short.get("clients", {}).items():
+        state["clients"][int(number)] = {"status": status, "mode": mode}
+    state["wire"] = [packet_of(packet) for packet in short.get("wire", []) for _ in range(packet.get("times", 1))]
+    return state
+
+
+def end_of(text):
+    """The last line of inspect."""
+    records, answer, drains = text.replace("= ", "").split(" ", 2)
+    given = {int(lock): drain if isinstance(drain, list) else [drain, 0] for lock, drain in json.loads(drains).items()}
+    rows = [(lock, *given.get(lock, (0, 0))) for lock in range(LOCKS)]
+    return {"end": ENDS[int(answer)], "answer": int(answer), "records": int(records),
+            "drains": [{"lock": lock, "answer": answer, "count": count} for lock, count, answer in rows]}
+
+
+def put(case, word, text):
+    """Adds a line of the file to its case."""
+    if word == "options":
+        case.options = text.split()
+    elif word == "given":
+        case.given = not case.objects
+        case.add_step("deliver 0 255 = 8", state_of(text))
+    elif word == "after":
+        case.put_state(state_of(text))
+    elif word == "end":
+        case.objects.append(end_of(text))
+    elif word == ">":
+        case.expected.append(text)
+    else:
+        case.add_step(f"{word} {text}")
+
+
+def cases_of(path):
+    """The cases of a file."""
+    cases = []
+    for line in path.read_text().replace("\n ", "").split("\n"):
+        word, _, text = line.partition(" ")
+        if word == "case":
+            cases.append(Case(text))
+        elif word and not word.startswith("#"):
+            put(cases[-1], word, text)
+    return cases

@@ -1,0 +1,89 @@
+"""What explain, picture and inspect refuse: a command, its standard input, and the one line that it should write on standard error."""
+import json
+
+from cases import end_of, numbered, state_of
+from desk.lines import fresh
+
+
+def lines(*objects):
+    return "".join(json.dumps(one, separators=(",", ":")) + "\n" for one in objects).encode()
+
+
+def refused(number, lock=0):
+    """A delivery from an empty wire."""
+    return {**numbered(number, f"deliver {lock} 0", 8), "state": fresh()}
+
+
+def after(number, words, state, answer=0):
+    return {**numbered(number, words, answer), "state": state_of(state)}
+
+
+def replaced(line, **fields):
+    return {**line, **fields}
+
+
+END = end_of("0 = 0 {}")
+ASKED = after(1, "acquire 0 0/0 shared", '{"clients":{"0":["waiting",3]},"wire":[{"kind":"ACQUIRE","client":0,"mode":3}]}')
+TURNED = {"kind": ASKED["kind"], **ASKED}
+FIRST = "line 1 is not one that inspect writes (docs/inspect.md)"
+MISSING = "the last line of inspect is missing (docs/inspect.md)"
+FOLLOWS = "line 1 does not follow from the state before it (docs/protocol.md)"
+
+# input that is not inspect's lines, and what both filters say of it
+NOT_LINES = [
+    (b"", MISSING),
+    (b"\n", FIRST),
+    (b"n kind answer wire\n1 1 0 1\n", FIRST),
+    (b"\xff\xfe", FIRST),
+    (b"[" * 100000, FIRST),
+    (b"9" * 5000, FIRST),
+    (b"null\n", FIRST),
+    (b"[]\n", FIRST),
+    (b"{}\n", FIRST),
+    (b'{"kind":[]}\n', FIRST),
+    (lines(ASKED), MISSING),
+    (lines(END, END), "line 2 stands behind the last line of inspect"),
+    (lines(END) + b"\n", "line 2 stands behind the last line of inspect"),
+    (lines(replaced(END, records=1)), FIRST),
+    (lines(replaced(END, answer=12)), FIRST),
+    (lines(replaced(END, drains=END["drains"][1:])), FIRST),
+    (lines(refused(2), end_of("1 = 0 {}")), FIRST),
+    (lines(refused(1), replaced(END, records=2)), "line 2 is not one that inspect writes (docs/inspect.md)"),
+    (lines(TURNED, end_of("1 = 0 {}")), FIRST),
+    (lines(replaced(ASKED, more=0), end_of("1 = 0 {}")), FIRST),
+    (lines(replaced(ASKED, state=None), end_of("1 = 0 {}")), FIRST),
+    (lines(replaced(ASKED, answer=8), end_of("1 = 0 {}")), FIRST),
+    (lines(replaced(ASKED, lock=True), end_of("1 = 0 {}")), FIRST),
+    (lines(replaced(ASKED, task=256), end_of("1 = 0 {}")), FIRST),
+    (lines(after(1, "acquire 0 0/0 shared", '{"wire":[{"kind":"ACQUIRE","client":16,"mode":3}]}'), end_of("1 = 0 {}")), FIRST),
+    (lines(after(1, "acquire 0 0/0 shared", '{"wire":[{"kind":"FREE","mode":3}]}'), end_of("1 = 0 {}")), FIRST),
+    (lines(after(1, "acquire 0 0/0 shared", '{"decider":[0,1,0]}'), end_of("1 = 0 {}")), FIRST),
+    (lines(after(1, "acquire 0 0/0 shared", '{"clients":{"0":["idle",3]}}'), end_of("1 = 0 {}")), FIRST),
+    (lines(after(1, "acquire 0 0/0 shared", '{"agents":{"0":{"mode":3,"holders":[1,0]}}}'), end_of("1 = 0 {}")), FIRST),
+    (lines({**numbered(1, "release 0 0/0", 7), "state": None}, end_of("1 = 0 {}")), FIRST),
+    (lines({**numbered(1, "deliver 0 0", 8), "state": None}, end_of("1 = 0 {}")), FIRST),
+    (lines(after(1, "deliver 0 0", '{}'), end_of("1 = 0 {}")), FOLLOWS),
+    (lines(refused(1), after(2, "deliver 0 1", '{"decider":[3,0,0]}', 8), end_of("2 = 0 {}")), FOLLOWS.replace("1", "2", 1)),
+]
+
+NO_LOCK = lines({**numbered(1, "deliver 7 0", 1), "state": None}, end_of("1 = 0 {}"))
+LONG = lines(*(refused(number) for number in range(1, 62)), end_of("61 = 0 {}"))
+INSPECT = "(usage: inspect [TRANSCRIPT])"
+
+ERRORS = [
+    *(([f"./{name}", *words, "no/such/file"], b"", f"{name}: cannot read no/such/file: No such file or directory")
+      for name in ("explain", "picture") for words in ([], ["--lines"])),
+    *(([f"./{name}", "--lines", "docs"], b"", f"{name}: cannot read docs: Is a directory") for name in ("explain", "picture")),
+    *(([f"./{name}", "--unknown"], b"", f"{name}: unrecognized arguments: --unknown (see {name} --help)") for name in ("explain", "picture")),
+    *(([f"./{name}", "one", "two"], b"", f"{name}: unrecognized arguments: two (see {name} --help)") for name in ("explain", "picture")),
+    *(([f"./{name}", "--lines"], given, f"{name}: {wrong}") for name in ("explain", "picture") for given, wrong in NOT_LINES),
+    (["./explain", "--lines"], NO_LOCK, f"explain: {FOLLOWS}"),
+    (["./picture", "--lines", "--lock", "8"], LONG, "picture: argument --lock: invalid choice: 8 (choose from 0, 1, 2, 3, 4, 5, 6, 7) (see picture --help)"),
+    (["./picture", "--lines", "--lock", "x"], LONG, "picture: argument --lock: invalid int value: 'x' (see picture --help)"),
+    (["./picture", "--lines"], LONG, "picture: lock 0 has 61 steps, and a picture shows at most 60"),
+    (["./picture", "--lines", "--lock", "3"], LONG, "picture: there is no step of lock 3"),
+    (["./inspect", "no/such/file"], b"", "inspect: cannot read no/such/file"),
+    (["./inspect", "docs"], b"", "inspect: cannot read docs"),
+    (["./inspect", "--unknown"], b"", f"inspect: unknown option --unknown {INSPECT}"),
+    (["./inspect", "one", "two"], b"", f"inspect: more than one file {INSPECT}"),
+]
