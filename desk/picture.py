@@ -16,7 +16,7 @@ WIDTHS = {"waiting": 4, "holding": 10}
 
 ROW, TOP, LINE = 30, 84, 12  # the heights of a row, of the head and of a line of text
 LETTER, LABEL = 6, 120  # the widths of a letter and of a label at most
-STEP, DECIDER, FIRST = 12, 200, 270  # where the steps' numbers, the decider's lane and the first machine's lane stand
+STEP, DECIDER, FIRST = 12, 200, 296  # where the steps' numbers, the decider's lane and the first machine's lane stand
 GROUP, BARS, BAR = 206, 136, 17  # the width of a machine's part, where its clients' spans begin, and the distance of two
 WIDTH = FIRST + MACHINES * GROUP
 
@@ -32,7 +32,7 @@ def bar(number):
 
 
 def tag(name, text=None, **attributes):
-    words = "".join(f' {key.rstrip("_").replace("_", "-")}="{value}"' for key, value in attributes.items() if value != "")
+    words = "".join(f' {key.replace("_", "-")}="{value}"' for key, value in attributes.items() if value != "")
     return f"<{name}{words}/>" if text is None else f"<{name}{words}>{text}</{name}>"
 
 
