@@ -1,4 +1,4 @@
-"""What explain, picture and inspect refuse: a command, its standard input, and the one line that it should write on standard error."""
+"""What explain, picture, inspect and replay refuse: a command, its standard input, and the one line that it should write on standard error."""
 import json
 
 from cases import end_of, numbered, state_of
@@ -68,7 +68,6 @@ NOT_LINES = [
 
 NO_LOCK = lines({**numbered(1, "deliver 7 0", 1), "state": None}, end_of("1 = 0 {}"))
 LONG = lines(*(refused(number) for number in range(1, 62)), end_of("61 = 0 {}"))
-INSPECT = "(usage: inspect [TRANSCRIPT])"
 
 ERRORS = [
     *(([f"./{name}", *words, "no/such/file"], b"", f"{name}: cannot read no/such/file: No such file or directory")
@@ -82,8 +81,10 @@ ERRORS = [
     (["./picture", "--lines", "--lock", "x"], LONG, "picture: argument --lock: invalid int value: 'x' (see picture --help)"),
     (["./picture", "--lines"], LONG, "picture: lock 0 has 61 steps, and a picture shows at most 60"),
     (["./picture", "--lines", "--lock", "3"], LONG, "picture: there is no step of lock 3"),
-    (["./inspect", "no/such/file"], b"", "inspect: cannot read no/such/file"),
-    (["./inspect", "docs"], b"", "inspect: cannot read docs"),
-    (["./inspect", "--unknown"], b"", f"inspect: unknown option --unknown {INSPECT}"),
-    (["./inspect", "one", "two"], b"", f"inspect: more than one file {INSPECT}"),
+    *(([f"./{name}", *words], b"", f"{name}: {wrong}") for name in ("inspect", "replay") for words, wrong in [
+        (["no/such/file"], "cannot read no/such/file"),
+        (["docs"], "cannot read docs"),
+        (["--unknown"], f"unknown option --unknown (usage: {name} [TRANSCRIPT])"),
+        (["one", "two"], f"more than one file (usage: {name} [TRANSCRIPT])"),
+    ]),
 ]
