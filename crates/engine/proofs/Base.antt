@@ -1,27 +1,20 @@
 -- The names that the proofs cite.
 pub use mathlib.Core.Path.{_≡_, refl, sym, _∙_}
 pub use mathlib.Core.List.{[]}
-pub use mathlib.Core.Bool.{false, true≢false, false≢true, _&&_, not, and-assoc}
-pub use Prim.Native.Nat.{_+_, _-_, _*_, _<_, _≤_}
+pub use mathlib.Core.Bool.{true≢false}
+pub use Prim.Native.Nat.{_-_, _<_, _≤_}
 pub use native.Mathlib.Omega.{arith}
-pub use lib.ListN.{length, take, drop, length-set}
-pub use lib.Dec.{eqb}
+pub use lib.ListN.{length, drop}
 pub use borrow.Author.Needs.{needs}
 pub use borrow.Author.Tests.{le-leb, lt-leb, eq-eqb, ne-eqb}
-pub use Rattle.model.specs.Lists.{all}
 unfoldable pub use Rattle.model.specs.Lists.{padded}
-pub use Rattle.model.specs.States.{locks, machines, tasks, clients, queueCapacity, wireCapacity, blankWaiter, idle, packets}
+pub use Rattle.model.specs.States.{machines, tasks, clients, idle, packets}
 unfoldable pub use Rattle.model.specs.States.{wireOf, freshLock, fresh}
 unfoldable pub use Rattle.model.specs.Refusals.{first}
 unfoldable pub use Rattle.model.specs.Calls.{perform}
-pub use Rattle.model.specs.WellFormed.{waiterInRange, distinct}
-unfoldable pub use Rattle.model.specs.WellFormed.{shaped, isBlankWaiter, queueFormed, agentFormed, isBlankAgent, slotFormed, messageFormed, packetFormed}
-unfoldable pub use Rattle.model.specs.WellFormed.{isBlankPacket, wireFormed, lockFormed, wellFormed}
 pub use Rattle.laws.specs.Shapes.{length-packets}
 pub use Rattle.laws.specs.Formed.{ready}
-pub use Rattle.parts.specs.Scans.{Joins, joins-next, first-next, first-all}
-pub use Rattle.rules.specs.Plans.{plan-accepts, plan-refuses}
-pub use Rattle.engine.specs.FormedLaws.{shaped-short, joins-whole, allNew, pass-whole, pass-far, pass-twice, pass-next, pass-end}
+pub use Rattle.planning.specs.Plans.{plan-accepts, plan-refuses}
 unfoldable pub use Rattle.engine.specs.LockCalls.{stepUnless, acquireOn, releaseOn, deliverOn, callOn}
 pub use Rattle.engine.specs.LockCalls.{in-range, first-no, read-formed, perform-accepts, perform-refuses, perform-malformed, perform-range}
 pub use Rattle.engine.specs.DrainState.{holderFrom, holder-here, holder-next, holder-end, Since, along-start, since-more, since-next, since-end}

@@ -25,8 +25,8 @@ use Rattle.laws.specs.CallSteps.{stepOf}
 use Rattle.laws.specs.Clusters.{perform-formed}
 use Rattle.laws.specs.FormedStep.{release-formed, deliver-formed}
 use Rattle.laws.specs.Next.{next-is, Goes, goes}
-use Rattle.rules.specs.declared.plan.Plan.{Plan}
-use Rattle.rules.specs.Plans.{Plans, carriedOut, plan-accepts, plan-refuses}
+use Rattle.planning.specs.declared.plan.Plan.{Plan}
+use Rattle.planning.specs.Plans.{Plans, carriedOut, plan-accepts, plan-refuses}
 use Rattle.engine.specs.LockCalls.{lock-read}
 use Rattle.engine.specs.declared.draining.Draining.{Draining}
 

@@ -22,8 +22,8 @@ use Rattle.laws.specs.Lists.{getD-any}
 use Rattle.laws.specs.Formed.{all-locks, lock-formed}
 use Rattle.laws.specs.CallSteps.{stepOf, step-refused}
 use Rattle.laws.specs.Clusters.{perform-formed}
-use Rattle.rules.specs.declared.plan.Plan.{Plan}
-use Rattle.rules.specs.Plans.{carriedOut, Plans, plan-accepts, plan-refuses}
+use Rattle.planning.specs.declared.plan.Plan.{Plan}
+use Rattle.planning.specs.Plans.{carriedOut, Plans, plan-accepts, plan-refuses}
 
 -- ---- the tests that are left to a call on a lock's state, and then the step
 -- the step r where the tests' answer accepts, else a refusal that leaves s

@@ -1,7 +1,7 @@
 // The drain of one lock's state. Each phase makes its steps in a loop and only then hands over to the other: a call for each step
 // would not fit the stack.
-use crate::formed::well_formed;
 use crate::lock_calls::is_holding;
+use formed::well_formed;
 use model::ALLOWANCE;
 use model::Answer;
 use model::CLIENTS;
@@ -13,9 +13,9 @@ use model::LOCKS;
 use model::LockId;
 use model::LockState;
 use model::Refusal;
-use rules::plan::carry_out;
-use rules::steps::plan_deliver;
-use rules::steps::plan_release;
+use planning::plan::carry_out;
+use planning::steps::plan_deliver;
+use planning::steps::plan_release;
 ghost use mathlib.Core.Path.{_≡_};
 ghost use mathlib.Core.Bool.{true, false};
 ghost use Prim.Native.Nat.{_<_};

@@ -13,7 +13,7 @@ use model::MachineId;
 use model::Outcome;
 use model::Refusal;
 use model::TaskId;
-use rules::plan::carry_out;
+use planning::plan::carry_out;
 ghost use mathlib.Core.Path.{_≡_};
 ghost use mathlib.Core.Bool.{true};
 ghost use Prim.Native.Nat.{_<_};
@@ -23,7 +23,6 @@ ghost use Rattle.model.specs.Calls.{acquire, release, deliver, perform, lockOf}
 
 mod cluster;
 mod draining;
-mod formed;
 pub mod lock_calls;
 
 pub use draining::drain;

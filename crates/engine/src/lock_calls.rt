@@ -16,10 +16,10 @@ use model::TASKS;
 use model::TaskId;
 use parts::state::status_at;
 use parts::wire::is_named;
-use rules::plan::refuse;
-use rules::steps::plan_acquire;
-use rules::steps::plan_deliver;
-use rules::steps::plan_release;
+use planning::plan::refuse;
+use planning::steps::plan_acquire;
+use planning::steps::plan_deliver;
+use planning::steps::plan_release;
 ghost use mathlib.Core.Path.{_≡_};
 ghost use mathlib.Core.Bool.{true, _||_};
 ghost use mathlib.Core.List.{List};
@@ -30,10 +30,10 @@ ghost use Rattle.model.specs.WellFormed.{lockFormed};
 ghost use Rattle.model.specs.Refusals.{Cause, first};
 ghost use Rattle.model.specs.Calls.{isIdle, isHolding, idleTests, acquireTests, holdingTests, releaseTests, lockOf};
 ghost use Rattle.laws.specs.Shapes.{CanonicalWire};
-ghost use Rattle.rules.specs.Plans.{Plans};
+ghost use Rattle.planning.specs.Plans.{Plans};
 ghost use Rattle.engine.specs.LockCalls.{rangeTests, further, acquireOn, releaseOn, deliverOn, callOn};
-pub use rules::plan::Plan;
-pub use rules::plan::carry_out;
+pub use planning::plan::Plan;
+pub use planning::plan::carry_out;
 
 fn client_of(k: MachineId, t: TaskId) -> ClientId
     requires { ⌜ (k .0 < machines) × (t .0 < tasks) ⌝ }

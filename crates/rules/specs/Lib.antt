@@ -1,7 +1,6 @@
--- What an effect and a plan mean, and laws of the rules that give them.
+-- What an effect means, and laws of the rules that give it.
 pub mod Names
 pub mod Effects
-pub mod Plans
 pub mod Leaving
 pub mod Admits
 pub mod Deciding

@@ -3,6 +3,4 @@ pub use Rattle.model.specs.declared.{MachineId.MachineId, ClientId.ClientId}
 pub use Rattle.model.specs.declared.{Mode.Mode, Mode.the-variants.{Exclusive, Shared}, Owner.Owner, Owner.the-variants.{Free as Unowned, Owned}}
 pub use Rattle.model.specs.declared.{Waiter.Waiter, Queue.Queue, Agent.Agent}
 pub use Rattle.model.specs.declared.{Address.the-variants.{Decider as ToDecider}, Message.the-variants.{Free, Grant}, Packet.Packet, Wire.Wire}
-pub use Rattle.model.specs.declared.{Site.Site, LockState.LockState}
-pub use Rattle.model.specs.declared.{Refusal.Refusal, Refusal.the-variants.{CannotPlace, WireFull}, Answer.Answer, Answer.the-variants.{Accepted, Refused}}
-pub use Rattle.model.specs.declared.{Stepped.Stepped}
+pub use Rattle.model.specs.declared.{Site.Site}

@@ -83,7 +83,7 @@ fn ask_decider(v: Site, c: ClientId, m: Mode) -> Effect
     doing(w, one_packet(p))
 }
 
-pub(crate) fn acquire(v: Site, c: ClientId, m: Mode) -> Effect
+pub fn acquire(v: Site, c: ClientId, m: Mode) -> Effect
     requires { ⌜ CanonicalQueue (v .slot .agent .queue) ⌝ }
     ensures { λ r. ⌜ verdictOf r ≡ clientAcquires v c m ⌝ }
 {

@@ -211,7 +211,7 @@ fn decides(m: Message, o: Owner, v: Site, p: Packet) -> Effect
     }
 }
 
-pub(crate) fn at_decider(v: Site, p: Packet) -> Effect
+pub fn at_decider(v: Site, p: Packet) -> Effect
     ensures { λ r. ⌜ verdictOf r ≡ atDecider v p ⌝ }
 {
     let m = p.message;

@@ -15,7 +15,7 @@ ghost use Rattle.model.specs.AtMachine.{grantOf};
 ghost use Rattle.rules.specs.Effects.{sentBy, verdictOf};
 
 // Packets sent: the first, or both, or none of two, and then a GRANT for each waiter admitted.
-pub(crate) struct Sends {
+pub struct Sends {
     pub count: u8,
     pub first: Packet,
     pub second: Packet,
@@ -23,7 +23,7 @@ pub(crate) struct Sends {
 }
 
 // placed: the step can be placed; site: what it writes.
-pub(crate) struct Effect {
+pub struct Effect {
     pub placed: bool,
     pub site: Site,
     pub sends: Sends,
@@ -73,7 +73,7 @@ pub(crate) fn grants_to(q: Queue) -> Sends
     }
 }
 
-pub(crate) fn cannot_place() -> Effect
+pub fn cannot_place() -> Effect
     ensures { λ r. ⌜ verdictOf r ≡ cannot-place ⌝ }
 {
     let d = unowned();

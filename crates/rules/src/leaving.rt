@@ -77,14 +77,14 @@ pub(crate) fn listed(x: AgentSlot, c: ClientId) -> bool
     if x.present { holds(h, c) } else { false }
 }
 
-pub(crate) fn machine_of(c: ClientId) -> MachineId
+pub fn machine_of(c: ClientId) -> MachineId
     ensures { λ r. ⌜ r ≡ machineOf c ⌝ }
 {
     MachineId(c.0 / TASKS as u8)
 }
 
 // A client that holds releases.
-pub(crate) fn release(v: Site, c: ClientId) -> Effect
+pub fn release(v: Site, c: ClientId) -> Effect
     requires { ⌜ CanonicalQueue (v .slot .agent .queue) ⌝ }
     ensures { λ r. ⌜ verdictOf r ≡ clientReleases v c ⌝ }
 {

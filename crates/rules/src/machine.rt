@@ -293,7 +293,7 @@ fn arrive(m: Message, v: Site, p: Packet) -> Effect
     }
 }
 
-pub(crate) fn at_machine(v: Site, p: Packet) -> Effect
+pub fn at_machine(v: Site, p: Packet) -> Effect
     requires { ⌜ (CanonicalQueue (v .slot .agent .queue)) × (CanonicalQueue (p .carried .agent .queue)) ⌝ }
     ensures { λ r. ⌜ verdictOf r ≡ atMachine v p ⌝ }
 {

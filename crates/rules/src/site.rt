@@ -11,7 +11,7 @@ use parts::state::status_at;
 ghost use mathlib.Core.Path.{_≡_};
 ghost use Rattle.model.specs.Changes.{siteOf, withDecider, withSlot, withStatus};
 
-pub(crate) fn site_of(s: LockState, k: MachineId, c: ClientId) -> Site
+pub fn site_of(s: LockState, k: MachineId, c: ClientId) -> Site
     ensures { λ r. ⌜ r ≡ siteOf s k c ⌝ }
 {
     let d = s.decider;

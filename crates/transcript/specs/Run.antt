@@ -28,8 +28,8 @@ use Rattle.laws.specs.Records.{record-ends, at-record, at-bad, at-end}
 use Rattle.laws.specs.Shapes.{length-packets}
 use Rattle.laws.specs.Formed.{all-locks, lock-formed, ready}
 use Rattle.laws.specs.Clusters.{perform-formed}
-use Rattle.rules.specs.declared.plan.Plan.{Plan}
-use Rattle.rules.specs.Plans.{Plans, carriedOut}
+use Rattle.planning.specs.declared.plan.Plan.{Plan}
+use Rattle.planning.specs.Plans.{Plans, carriedOut}
 use Rattle.engine.specs.LockCalls.{callOn, lock-read, read-formed, perform-range, perform-accepts, perform-refuses}
 use Rattle.listing.specs.Put.{put-then}
 

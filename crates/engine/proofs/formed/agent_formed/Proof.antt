@@ -1,7 +1,0 @@
-use Rattle.engine.proofs.Base.{needs, agentFormed}
-use Rattle.engine.proofs.formed.agent_formed.Statement.{statement}
-use Rattle.engine.proofs.formed.agent_formed.Tie as tie
-
-pub agent-formed-spec : {M : Type 1} → statement M
-unfolding agentFormed
-agent-formed-spec = tie.close (tie.spec (search needs) (search needs) (λ c. rw (c .before .has-all-holders .ensures, c .queue-formed .ensures)))

@@ -1,8 +1,0 @@
-use Rattle.engine.proofs.Base.{needs, isBlankPacket}
-use Rattle.engine.proofs.formed.is_blank_packet.Statement.{statement}
-use Rattle.engine.proofs.formed.is_blank_packet.Tie as tie
-
-pub is-blank-packet-spec : {M : Type 1} → statement M
-unfolding isBlankPacket
-is-blank-packet-spec = tie.close (tie.spec (search needs) (search needs) (search needs)
-    (λ c. let b = c .before .before in rw (b .before .before .is-free .ensures, b .before .to-decider .ensures, b .is-blank-agent .ensures)))

@@ -1,0 +1,2 @@
+-- Laws of the passes over queues and wires.
+pub mod Laws

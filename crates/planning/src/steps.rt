@@ -1,0 +1,98 @@
+// The steps on one lock's state, as plans: a rule's effect with its answer.
+use crate::plan::NONE_OFF;
+use crate::plan::Plan;
+use crate::plan::plan_effect;
+use model::Address;
+use model::ClientId;
+use model::LockState;
+use model::MachineId;
+use model::Message;
+use model::Mode;
+use model::Packet;
+use model::Site;
+use parts::wire::packet_at;
+use rules::asking::acquire;
+use rules::decider::at_decider;
+use rules::effect::Effect;
+use rules::leaving::machine_of;
+use rules::leaving::release;
+use rules::machine::at_machine;
+use rules::site::site_of;
+ghost use mathlib.Core.Path.{_≡_};
+ghost use Prim.Native.Nat.{_<_};
+ghost use Rattle.model.specs.Calls.{machineAt, clientNamed, delivers, acquireStep, releaseStep, deliverStep};
+ghost use Rattle.laws.specs.Shapes.{CanonicalQueue};
+ghost use Rattle.laws.specs.Formed.{Ready};
+ghost use Rattle.rules.specs.Effects.{verdictOf};
+ghost use Rattle.planning.specs.Plans.{Plans};
+
+pub fn plan_acquire(s: LockState, c: ClientId, m: Mode) -> Plan
+    requires { ⌜ Ready s ⌝ }
+    ensures { λ r. ⌜ Plans r s (acquireStep s c m) ⌝ }
+{
+    let k = machine_of(c);
+    let v = site_of(s, k, c);
+    let e = acquire(v, c, m);
+    plan_effect(k, c, e, NONE_OFF, s.wire.len)
+}
+
+// A client that holds releases.
+pub fn plan_release(s: LockState, c: ClientId) -> Plan
+    requires { ⌜ Ready s ⌝ }
+    ensures { λ r. ⌜ Plans r s (releaseStep s c) ⌝ }
+{
+    let k = machine_of(c);
+    let v = site_of(s, k, c);
+    let e = release(v, c);
+    plan_effect(k, c, e, NONE_OFF, s.wire.len)
+}
+
+// The machine and the client that a delivery is about.
+fn machine_at(to: Address) -> MachineId
+    ensures { λ r. ⌜ r ≡ machineAt to ⌝ }
+{
+    match to {
+        Address::Decider => MachineId(0),
+        Address::Machine(k) => k,
+    }
+}
+
+fn client_named(m: Message) -> ClientId
+    ensures { λ r. ⌜ r ≡ clientNamed m ⌝ }
+{
+    match m {
+        Message::Free => ClientId(0),
+        Message::Acquire {
+            client,
+            mode: _,
+            granted: _,
+        } => client,
+        Message::Grant { client, mode: _ } => client,
+        Message::Release { client } => client,
+    }
+}
+
+// The packet p is delivered at its address.
+fn deliver(to: Address, v: Site, p: Packet) -> Effect
+    requires { ⌜ (CanonicalQueue (v .slot .agent .queue)) × (CanonicalQueue (p .carried .agent .queue)) ⌝ }
+    ensures { λ r. ⌜ verdictOf r ≡ delivers to v p ⌝ }
+{
+    match to {
+        Address::Decider => at_decider(v, p),
+        Address::Machine(_) => at_machine(v, p),
+    }
+}
+
+pub fn plan_deliver(s: LockState, i: u8) -> Plan
+    requires { ⌜ (Ready s) × (i < s .wire .len) ⌝ }
+    ensures { λ r. ⌜ Plans r s (deliverStep s i) ⌝ }
+{
+    let p = packet_at(s.wire, i);
+    let to = p.to;
+    let m = p.message;
+    let k = machine_at(to);
+    let c = client_named(m);
+    let v = site_of(s, k, c);
+    let e = deliver(to, v, p);
+    plan_effect(k, c, e, i, s.wire.len - 1)
+}
