@@ -2,6 +2,7 @@
 use crate::plan::NONE_OFF;
 use crate::plan::Plan;
 use crate::plan::plan_effect;
+use machine::at_machine;
 use model::Address;
 use model::ClientId;
 use model::LockState;
@@ -16,7 +17,6 @@ use rules::decider::at_decider;
 use rules::effect::Effect;
 use rules::leaving::machine_of;
 use rules::leaving::release;
-use rules::machine::at_machine;
 use rules::site::site_of;
 ghost use mathlib.Core.Path.{_≡_};
 ghost use Prim.Native.Nat.{_<_};

@@ -2,5 +2,5 @@
 pub mod Names
 pub mod Effects
 pub mod Leaving
-pub mod Admits
+pub mod Room
 pub mod Deciding

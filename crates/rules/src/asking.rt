@@ -30,7 +30,7 @@ ghost use Rattle.laws.specs.Shapes.{CanonicalQueue};
 ghost use Rattle.rules.specs.Effects.{verdictOf};
 
 // A request may join the holders of the site's agent: agent and request are both shared.
-pub(crate) fn may_join(v: Site, m: Mode) -> bool
+pub fn may_join(v: Site, m: Mode) -> bool
     ensures { λ r. ⌜ r ≡ mayJoin v m ⌝ }
 {
     let x = v.slot;
@@ -40,7 +40,7 @@ pub(crate) fn may_join(v: Site, m: Mode) -> bool
 }
 
 // The client joins the end of the agent's queue.
-pub(crate) fn queue_last(v: Site, mut a: Agent, c: ClientId, m: Mode) -> Effect
+pub fn queue_last(v: Site, mut a: Agent, c: ClientId, m: Mode) -> Effect
     requires { ⌜ CanonicalQueue (a .queue) ⌝ }
     ensures { λ r. ⌜ verdictOf r ≡ withRoom a c (does (withSlot v (someAgent (queuing a c m))) []) ⌝ }
 {

@@ -30,13 +30,13 @@ pub struct Effect {
 }
 
 // ---- packets sent
-pub(crate) fn no_packet() -> Sends
+pub fn no_packet() -> Sends
     ensures { λ r. ⌜ sentBy r ≡ [] ⌝ }
 {
     grants_to(empty_queue())
 }
 
-pub(crate) fn one_packet(p: Packet) -> Sends
+pub fn one_packet(p: Packet) -> Sends
     ensures { λ r. ⌜ sentBy r ≡ p ∷ [] ⌝ }
 {
     let q = empty_queue();
@@ -61,7 +61,7 @@ pub(crate) fn two_packets(p: Packet, q: Packet) -> Sends
     }
 }
 
-pub(crate) fn grants_to(q: Queue) -> Sends
+pub fn grants_to(q: Queue) -> Sends
     ensures { λ r. ⌜ sentBy r ≡ map grantOf (waiters q) ⌝ }
 {
     let p = blank_packet();
@@ -92,7 +92,7 @@ pub fn cannot_place() -> Effect
 }
 
 // The step is placed: it writes the site and sends the packets.
-pub(crate) fn doing(v: Site, t: Sends) -> Effect
+pub fn doing(v: Site, t: Sends) -> Effect
     ensures { λ r. ⌜ verdictOf r ≡ does v (sentBy t) ⌝ }
 {
     Effect {
@@ -103,7 +103,7 @@ pub(crate) fn doing(v: Site, t: Sends) -> Effect
 }
 
 // Nothing but a packet sent.
-pub(crate) fn sending(v: Site, p: Packet) -> Effect
+pub fn sending(v: Site, p: Packet) -> Effect
     ensures { λ r. ⌜ verdictOf r ≡ does v (p ∷ []) ⌝ }
 {
     doing(v, one_packet(p))

@@ -51,7 +51,7 @@ fn hand_over(mut a: Agent, hs: [bool; CLIENTS]) -> Packet
 }
 
 // The agent a removes the holder c and leaves if empty.
-pub(crate) fn leave(v: Site, mut a: Agent, c: ClientId) -> Effect
+pub fn leave(v: Site, mut a: Agent, c: ClientId) -> Effect
     requires { ⌜ CanonicalQueue (a .queue) ⌝ }
     ensures { λ r. ⌜ verdictOf r ≡ leaves v a c ⌝ }
 {
@@ -69,7 +69,7 @@ pub(crate) fn leave(v: Site, mut a: Agent, c: ClientId) -> Effect
 }
 
 // An agent is there and lists the client as a holder.
-pub(crate) fn listed(x: AgentSlot, c: ClientId) -> bool
+pub fn listed(x: AgentSlot, c: ClientId) -> bool
     ensures { λ r. ⌜ r ≡ lists x c ⌝ }
 {
     let a = x.agent;

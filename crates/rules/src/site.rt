@@ -34,14 +34,14 @@ pub(crate) fn with_decider(mut v: Site, d: Decider) -> Site
     v
 }
 
-pub(crate) fn with_slot(mut v: Site, x: AgentSlot) -> Site
+pub fn with_slot(mut v: Site, x: AgentSlot) -> Site
     ensures { λ r. ⌜ r ≡ withSlot v x ⌝ }
 {
     v.slot = x;
     v
 }
 
-pub(crate) fn with_status(v: Site, st: Status) -> Site
+pub fn with_status(v: Site, st: Status) -> Site
     ensures { λ r. ⌜ r ≡ withStatus v st ⌝ }
 {
     let d = v.decider;
