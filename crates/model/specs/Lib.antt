@@ -22,3 +22,5 @@ pub mod Trace
 -- "Transcripts and the desk program"
 pub mod Transcripts
 pub mod Listing
+-- document 02, "Thirty-three places are enough"
+pub mod Counts

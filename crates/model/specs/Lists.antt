@@ -1,7 +1,7 @@
 -- A choice by a test, and tests over lists.
 use mathlib.Core.Bool.{Bool, true, false, _&&_, _||_}
 use mathlib.Core.List.{List, [], _∷_, _++_}
-use Prim.Native.Nat.{ℕ, zero, suc, _-_}
+use Prim.Native.Nat.{ℕ, zero, suc, _+_, _-_}
 use lib.ListN.{length, replicate}
 
 abbrev pub pick : {A : Type 0} → Bool → A → A → A
@@ -16,6 +16,11 @@ module _ {A : Type 0} where
   abbrev pub all : (A → Bool) → List A → Bool
   all p [] = true
   all p (x ∷ xs) = p x && all p xs
+
+  -- how many elements pass the test
+  unfoldable pub count : (A → Bool) → List A → ℕ
+  count p [] = 0
+  count p (x ∷ xs) = pick (p x) 1 0 + count p xs
 
   -- an array of n: the list, and blanks to the end
   unfoldable pub padded : ℕ → A → List A → List A

@@ -1,17 +1,16 @@
 -- Every acquire of a client that is idle and named by no packet, and every release of one that holds, can be placed and keeps the
 -- invariant.
-use Rattle.theorems.specs.Names.{MachineId, ClientId, Mode, Exclusive, Shared, Owner, Unowned, Owned, Agent, ToDecider, Message, Free, Acquire, Grant}
-use Rattle.theorems.specs.Names.{Release, Packet, Idle, Waiting, Holding, LockState, _≡_, refl, ap, Bool, true, false, List, [], _∷_, ℕ, _+_, _≤_, _<_}
-use Rattle.theorems.specs.Names.{arith, bool-cases, eqb, eqb-true, eq-eqb, lt-ltb, pick, any, machineOf, someAgent, agentOn, listed, plain, waiters}
-use Rattle.theorems.specs.Names.{noAgent, packets, Verdict, does, Site, siteOf, withSlot, withStatus, joining, queuing, withRoom, mayJoin, lists}
-use Rattle.theorems.specs.Names.{clientAsks, clientAcquires, leaves, clientReleases, messageNames, names, or-left, or-right, machines, clients, Status}
-use Rattle.theorems.specs.Names.{_*_}
+use Rattle.theorems.specs.Names.{MachineId, ClientId, Mode, Exclusive, Shared, Owner, Unowned, Owned, Agent, ToDecider, Acquire, Release, Packet, Idle}
+use Rattle.theorems.specs.Names.{Waiting, Holding, LockState, _≡_, refl, ap, Bool, true, false, List, [], _∷_, ℕ, _+_, _≤_, _<_, arith, bool-cases, eqb}
+use Rattle.theorems.specs.Names.{eqb-true, eq-eqb, lt-ltb, pick, any, machineOf, someAgent, agentOn, listed, plain, waiters, noAgent, packets, Verdict}
+use Rattle.theorems.specs.Names.{does, Site, siteOf, withSlot, withStatus, joining, queuing, withRoom, mayJoin, lists, clientAsks, clientAcquires}
+use Rattle.theorems.specs.Names.{leaves, clientReleases, names, or-left, or-right, machines, clients, Status, _*_}
 use Rattle.theorems.specs.Tally.{flag, tally, tally-le}
-use Rattle.theorems.specs.Weights.{statusAt, slotAt, weight, one, hit, hitW, askM, queuedS, waitingP, markM, listedS, listedP, owedM, releaseM, releaseP}
-use Rattle.theorems.specs.Weights.{agentS, incarnationS, markAll, vacantS, waitF, holdF, idleF, clash, misfitS, fitsHome, fits, misfitP}
+use Rattle.theorems.specs.Weights.{statusAt, slotAt, weight, one, hit, hitW, askM, queuedS, waitingP, markM, listedS, listedP, owedM, releaseM}
+use Rattle.theorems.specs.Weights.{releaseP, agentS, incarnationS, markAll, vacantS, waitF, holdF, idleF, clash, misfitS, fitsHome, fits, misfitP}
 use Rattle.theorems.specs.Invariant.{Inv}
 use Rattle.theorems.specs.InvariantStep.{Keeps, Split, told, keep, vacancy-by, framed}
-use Rattle.theorems.specs.Facts.{Home, slot-home, status-move, modes-told, in-slot, clash-none, namesM, hits, owes-list, joins-fits, joins-listed}
+use Rattle.theorems.specs.Facts.{Home, slot-home, status-move, modes-told, in-slot, clash-none, namesM, names-are, owes-list, joins-fits, joins-listed}
 use Rattle.theorems.specs.Facts.{joins-busy}
 use Rattle.theorems.specs.Sent.{Good, good-by, may-join}
 use Rattle.theorems.specs.Waiters.{room-idle, queued-one, good-room}
@@ -23,20 +22,12 @@ unfolding tally
 split-none r = record { parts = λ f. omega arith }
 
 -- ---- no packet names the client
-names-message : (c : ClientId) (m : Message) → messageNames c m ≡ false → namesM (c .0) m ≡ 0
-unfolding askM markM releaseM one
-names-message c (Acquire d n false) e = omega (arith, hits (c .0) d n, ap flag e)
-names-message c (Acquire d n true) e = rw e
-names-message c (Grant d n) e = omega (arith, hits (c .0) d n, ap flag e)
-names-message c (Release d) e = rw e
-names-message c Free e = refl
-
 pub names-none : (c : ClientId) (ps : List Packet) → any (names c) ps ≡ false → tally (λ p. namesM (c .0) (p .message)) ps ≡ 0
 unfolding tally
 names-none c [] e = refl
 names-none c (p ∷ ps) e =
-    let here = names-message c (p .message) (or-left (names c p) (any (names c) ps) e) in
-    omega (arith, names-none c ps (or-right (names c p) (any (names c) ps) e))
+    let here = ap flag (or-left (names c p) (any (names c) ps) e) in
+    omega (arith, names-are c (p .message), names-none c ps (or-right (names c p) (any (names c) ps) e))
 
 module _ (r : LockState) (i : Inv r) (c : ClientId) (cl : c .0 < clients) (id : statusAt r (c .0) ≡ Idle)
     (unnamed : tally (λ p. namesM (c .0) (p .message)) (packets (r .wire)) ≡ 0) where

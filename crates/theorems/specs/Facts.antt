@@ -4,7 +4,7 @@ use Rattle.theorems.specs.Names.{Acquire, Grant, Release, Packet, Status
 use Rattle.theorems.specs.Names.{_&&_, not, and-false, false≢true, List, [], _∷_, ℕ, _+_, _*_, _≤_, _<_, arith, ℕ-discrete, length, getD, set, length-set}
 use Rattle.theorems.specs.Names.{List·getD-eq-default, getD-set-same, getD-set-other, eqb, ltb, eqb-true, eq-eqb, ne-eqb, ltb-true, ltb-false, lt-ltb}
 use Rattle.theorems.specs.Names.{leb-true, le-leb, someAgent, idle, noAgent, packets, changed, and-left, and-right, bool-cases, machines, clients}
-use Rattle.theorems.specs.Names.{wireCapacity, machineOf, ownedShared, true≢false, isShared, isFree}
+use Rattle.theorems.specs.Names.{wireCapacity, machineOf, ownedShared, true≢false, isShared, isFree, messageNames}
 use Rattle.theorems.specs.Tally.{flag, tally, tally-set, tally-at, tally-le, tally-none, tally-add, tally-length, sumTo, sum-swap, sum-le, sum-ext}
 use Rattle.theorems.specs.Tally.{sum-one}
 use Rattle.theorems.specs.Weights.{statusAt, slotAt, weight, sameMode, one, hit, hitW, askM, queuedS, waitingP, markM, listedS, listedP, owedM, owedP}
@@ -229,13 +229,21 @@ shared-owner (Owned Shared k) e = refl
 abbrev pub namesM : ℕ → Message → ℕ
 namesM d m = askM d Exclusive m + askM d Shared m + markM d m + releaseM d m
 
-unfoldable freeM : Message → ℕ
+unfoldable pub freeM : Message → ℕ
 freeM m = flag (isFree m)
 
 pub hits : (d : ℕ) (c : ClientId) (n : Mode) → hit d Exclusive c n + hit d Shared c n ≡ one d c
 unfolding hit one
 hits d c Exclusive = omega arith
 hits d c Shared = omega arith
+
+pub names-are : (c : ClientId) (m : Message) → namesM (c .0) m ≡ flag (messageNames c m)
+unfolding askM markM releaseM one
+names-are c (Acquire d n false) = omega (arith, hits (c .0) d n)
+names-are c (Acquire d n true) = omega arith
+names-are c (Grant d n) = omega (arith, hits (c .0) d n)
+names-are c (Release d) = omega arith
+names-are c Free = refl
 
 -- what counts c alone counts 1 over all clients
 pub one-each : (c : ClientId) → ltb (c .0) clients ≡ true → sumTo clients (λ d. one d c) ≡ 1
@@ -334,7 +342,7 @@ module _ (r : LockState) (i : Inv r) where
       let asked = tally-add (λ p. askM d Exclusive (p .message)) (λ p. askM d Shared (p .message)) ps in
       omega (arith, statuses (statusAt r d), asks d Exclusive, asks d Shared, marked-below d, i .rels d)
 
-  frees : tally (λ p. freeM (p .message)) ps ≤ 1
+  pub frees : tally (λ p. freeM (p .message)) ps ≤ 1
   unfolding weight
   frees =
       let o : Owner = r .decider .owner in
@@ -376,27 +384,28 @@ absent-of s e = bool-cases (s .present) (λ q. absurd (omega (arith, rw q at e))
 zero-of : (s : AgentSlot) → agentS s ≡ 0 → Zero s
 zero-of s e = absent s (absent-of s e)
 
--- ---- at a free lock nothing is marked; where the incarnations agree nothing is
-mark-free : (x : Bool) (t : Address) (b : Bool) (a : Agent) (m : Message) → markAll m ≤ flag (not (fits Unowned x t b a m))
+-- ---- at a lock that is not shared nothing is marked; where the incarnations agree nothing is
+mark-shared : (o : Owner) → ownedShared o ≡ false → (x : Bool) (t : Address) (b : Bool) (a : Agent) (m : Message) → markAll m ≤ flag (not (fits o x t b a m))
 unfolding fits markAll
-mark-free x t b a (Acquire c n false) = omega arith
-mark-free true t b a (Acquire c n true) = simp and-false (omega arith)
-mark-free false t b a (Acquire c n true) = simp and-false (omega arith)
-mark-free x t b a (Grant c n) = omega arith
-mark-free x t b a (Release c) = omega arith
-mark-free x t b a Free = omega arith
+mark-shared o e x t b a (Acquire c n false) = omega arith
+mark-shared o e true t b a (Acquire c n true) = simp and-false (omega arith)
+mark-shared o e false t b a (Acquire c n true) = rw e (simp and-false (omega arith))
+mark-shared o e x t b a (Grant c n) = omega arith
+mark-shared o e x t b a (Release c) = omega arith
+mark-shared o e x t b a Free = omega arith
 
-pub silent-free : (r : LockState) → Inv r → r .decider .owner ≡ Unowned → tally markP (packets (r .wire)) ≡ 0
+pub silent-unshared : (r : LockState) → Inv r → ownedShared (r .decider .owner) ≡ false → tally markP (packets (r .wire)) ≡ 0
 unfolding misfitP
-silent-free r i o =
+silent-unshared r i e =
+    let o : Owner = r .decider .owner in
     omega (
       arith,
-      rw o at (i .fitting),
-      tally-le markP (misfitP Unowned) (λ p. mark-free (p .carried .present) (p .to) (p .rejected) (p .carried .agent) (p .message)) (packets (r .wire)),
+      i .fitting,
+      tally-le markP (misfitP o) (λ p. mark-shared o e (p .carried .present) (p .to) (p .rejected) (p .carried .agent) (p .message)) (packets (r .wire)),
     )
 
 -- where no agent is, no incarnation is counted
-no-incs : (qs : List Packet) (xs : List AgentSlot) → tally agentP qs + tally agentS xs ≡ 0 → tally incarnationP qs + tally incarnationS xs ≡ 0
+pub no-incs : (qs : List Packet) (xs : List AgentSlot) → tally agentP qs + tally agentS xs ≡ 0 → tally incarnationP qs + tally incarnationS xs ≡ 0
 no-incs qs xs z =
     let here = tally-none agentS incarnationS (λ s e. zero-of s e .incarnationS) xs (omega arith) in
     omega (arith, tally-none agentP incarnationP (λ q e. zero-of (q .carried) e .incarnationS) qs (omega arith))
@@ -414,7 +423,7 @@ marks-bound r i =
 
 pub free-inc : (r : LockState) → Inv r → r .decider .owner ≡ Unowned → r .decider .incarnation ≡ 0
 unfolding weight ownedF
-free-inc r i o = omega (arith, i .incs, silent-free r i o, no-incs (packets (r .wire)) (r .agents) (rw o at (i .agent)))
+free-inc r i o = omega (arith, i .incs, silent-unshared r i (rw o), no-incs (packets (r .wire)) (r .agents) (rw o at (i .agent)))
 
 pub same-mode : (m : Mode) → sameMode m m ≡ true
 same-mode Exclusive = refl

@@ -3,6 +3,7 @@
 pub mod Names
 -- ---- the definitions at work: scenarios, the bounds of well-formedness, what the contracts rule out
 pub mod Scenarios
+pub mod Figures
 pub mod Bounds
 pub mod RuledOut
 -- ---- the invariant
@@ -35,3 +36,4 @@ pub mod Distance
 pub mod RankFalls
 pub mod Quiescence
 pub mod Drains
+pub mod Counts

@@ -26,7 +26,7 @@ pub use lib.Dec.{eqb, leb, ltb}
 pub use borrow.Author.Tests.{eqb-true, eqb-false, eq-eqb, ne-eqb, ltb-true, ltb-false, lt-ltb, leb-true, leb-false, le-leb, lt-leb}
 -- ---- the model and its laws
 pub use Rattle.model.specs.Lists.{pick, any, all}
-unfoldable pub use Rattle.model.specs.Lists.{removed}
+unfoldable pub use Rattle.model.specs.Lists.{count, removed}
 pub use Rattle.model.specs.States.{locks, machines, tasks, clients, queueCapacity, wireCapacity, clientOf, machineOf, modeOf, isShared, noHolders, newAgent}
 pub use Rattle.model.specs.States.{someAgent, agentOn, listed, idle, statusOf, plain, carrying, resent, unowned, lockIn}
 unfoldable pub use Rattle.model.specs.States.{queueOf, waiters, noAgent, blankPacket, wireOf, packets, freshLock, fresh}
@@ -44,6 +44,7 @@ unfoldable pub use Rattle.model.specs.AtMachine.{releaseArrives, freeArrives, a
 pub use Rattle.model.specs.Calls.{refusing, isHolding, messageNames, names, machineAt, clientNamed, packetAt, answersOf, after, lockOf}
 unfoldable pub use Rattle.model.specs.Calls.{delivers, acquireStep, releaseStep, takes, deliverStep, settled, unless, acquire, release, deliver, perform, run}
 pub use Rattle.model.specs.Refusals.{refusalNumber, number}
+pub use Rattle.model.specs.Counts.{agentsIn, isMarked, marksIn, uncounted}
 pub use Rattle.model.specs.Trace.{View, unseen, isAccepted, toMachine, isGrantFor, showsGrant, afterAcquire}
 pub use Rattle.model.specs.Trace.{afterGrant, afterRelease, phaseAfter}
 unfoldable pub use Rattle.model.specs.Trace.{sees, watch}

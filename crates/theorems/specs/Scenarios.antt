@@ -154,7 +154,7 @@ abbrev d8 : LockState
 d8 = lock (owned Exclusive 1 0) nowhere (waiting4 Exclusive others) (carrying (Grant (client 4) Exclusive) (ToMachine (machine 1)) (agent Exclusive [] 0) ∷ [])
 
 -- D9: incarnation 255 at decider and agent
-abbrev d9-start : LockState
+abbrev pub d9-start : LockState
 d9-start = lock (owned Shared 0 255) (on0 (agent Shared (0 ∷ []) 255)) holding0 []
 
 -- the decider's wraps around with a mark,

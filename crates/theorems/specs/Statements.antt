@@ -9,9 +9,8 @@ use Rattle.model.specs.Listing.{Row, kindOf, rowOf, header, lineOf, refusedLine
 use Rattle.theorems.specs.Names.{LockId, ClientId, Mode, Exclusive, Status, Waiting, Holding, Cluster, Call, Refusal, Answer, Accepted, Refused, _≡_}
 use Rattle.theorems.specs.Names.{true, List, [], _∷_, ℕ, _≤_, _<_, length, eqb, leb, all, statusOf, lockIn, packets, freshLock, fresh, wellFormed}
 use Rattle.theorems.specs.Names.{current, packetAt, run, answersOf, perform, lockOf, number, phaseAfter, _+_, _-_, _*_, locks, clients, wireCapacity}
-use Rattle.theorems.specs.Names.{after, _++_, map}
-use Rattle.theorems.specs.Tally.{tally}
-use Rattle.theorems.specs.Weights.{markP}
+use Rattle.theorems.specs.Names.{after, _++_, map, Packet, MachineId, Unowned, Owned, LockState, Bool, false, not, _||_, count, agentOn, ownedShared}
+use Rattle.theorems.specs.Names.{names, isFree, agentsIn, marksIn, uncounted}
 
 -- Different answers have different numbers, and 0 is the number of the accepted alone.
 pub record Numbered : Type 0 where
@@ -116,8 +115,34 @@ pub record ListsAll (x : Cluster) (bytes : List ℕ) : Type 0 where
   pub kinds : (i : ℕ) (c : Call) (j : ℕ) → readRecord bytes i ≡ Record c j → kindOf c ≡ short bytes (i + 2)
   pub fits : length (listing x bytes) ≤ longestListing
 
+-- The answer is neither 9, no place for what comes, nor 10, no room on the wire.
+abbrev pub isPlaced : Answer → Bool
+isPlaced a = not (eqb (number a) 9 || eqb (number a) 10)
+
+-- Request 1 of document 02: thirty-three places are enough, and why. A lock's state s after a list, in counts that can be made on the screen.
+pub record Enough (cs : List Call) (l : LockId) (s : LockState) : Type 0 where
+  -- There is no agent at a free lock, and exactly one at any other.
+  pub free : s .decider .owner ≡ Unowned → agentsIn s ≡ 0
+  pub owned : (m : Mode) (k : MachineId) → s .decider .owner ≡ Owned m k → agentsIn s ≡ 1
+  -- Wherever it is, the decider's incarnation less its own, modulo 256, is the number of marked ACQUIREs on the wire; not only while the lock is shared, but
+  -- at all other times there is none.
+  pub on-machine : (k : MachineId) → agentOn s k .present ≡ true → uncounted (s .decider) (agentOn s k .agent) ≡ marksIn s
+  pub in-packet : (i : ℕ) → i < length (packets (s .wire)) → packetAt s i .carried .present ≡ true
+      → uncounted (s .decider) (packetAt s i .carried .agent) ≡ marksIn s
+  pub unshared : ownedShared (s .decider .owner) ≡ false → marksIn s ≡ 0
+  -- Two packets at most name a client, and one at most is a FREE, which names none: with sixteen clients, 33 in all.
+  pub named : (c : ClientId) → count (names c) (packets (s .wire)) ≤ 2
+  pub frees : count (λ (p : Packet). isFree (p .message)) (packets (s .wire)) ≤ 1
+  pub wire : length (packets (s .wire)) ≤ wireCapacity
+  -- No call of the list is answered 9 or 10, nor is a drain after it, nor a step of that drain.
+  pub calls : all isPlaced (answersOf cs fresh) ≡ true
+  pub drains : l .0 < locks → all isPlaced (drain (after cs) l .answer ∷ answersOf (drainCalls l (after cs)) (after cs)) ≡ true
+
+abbrev pub ThirtyThree : List Call → Type 0
+ThirtyThree cs = (l : LockId) → Enough cs l (lockIn (after cs) l)
+
 -- Eight bits do for an incarnation: a wire never has as many as 256 marks, so a carried agent's is the decider's exactly where it has none.
 pub record IncarnationSound (cs : List Call) : Type 0 where
-  pub bounded : (l : LockId) → tally markP (packets (lockIn (after cs) l .wire)) ≤ clients
+  pub bounded : (l : LockId) → marksIn (lockIn (after cs) l) ≤ clients
   pub sound : (l : LockId) (i : ℕ) → i < length (packets (lockIn (after cs) l .wire)) → packetAt (lockIn (after cs) l) i .carried .present ≡ true
-      → current (lockIn (after cs) l .decider) (packetAt (lockIn (after cs) l) i) ≡ eqb (tally markP (packets (lockIn (after cs) l .wire))) 0
+      → current (lockIn (after cs) l .decider) (packetAt (lockIn (after cs) l) i) ≡ eqb (marksIn (lockIn (after cs) l)) 0

@@ -1,6 +1,6 @@
 -- Sums over lists, and sums over the numbers below a bound.
 use Rattle.theorems.specs.Names.{_≡_, refl, sym, Bool, true, false, List, [], _∷_, _++_, map, ℕ, zero, suc, _+_, _*_, _≤_, _<_, arith, ℕ-discrete, length}
-use Rattle.theorems.specs.Names.{getD, set, eqb, eq-eqb, ne-eqb, removed}
+use Rattle.theorems.specs.Names.{getD, set, eqb, eq-eqb, ne-eqb, removed, count, pick}
 
 abbrev pub flag : Bool → ℕ
 flag true = 1
@@ -77,6 +77,16 @@ module _ {A : Type 0} where
   unfolding tally
   tally-zero [] = refl
   tally-zero (x ∷ xs) = omega (arith, tally-zero xs)
+
+  -- a count is a sum
+  pub count-tally : (p : A → Bool) (xs : List A) → count p xs ≡ tally (λ x. flag (p x)) xs
+  unfolding count tally
+  count-tally p [] = refl
+  count-tally p (x ∷ xs) = omega (arith, pick-flag (p x), count-tally p xs)
+    where
+      pick-flag : (b : Bool) → pick b 1 0 ≡ flag b
+      pick-flag true = refl
+      pick-flag false = refl
 
   pub tally-length : (xs : List A) → tally (λ x. 1) xs ≡ length xs
   unfolding tally

@@ -1,21 +1,16 @@
 -- The proofs of the statements: the numbers, then for every list of calls.
 use Rattle.laws.specs.CallSteps.{perform-elsewhere}
-use Rattle.theorems.specs.Names.{Packet, LockState, Cluster, Call, Answer, _≡_, refl, sym, ap, _∙_, true, List, [], _∷_, ℕ, _≤_, _<_, arith, length, eqb}
-use Rattle.theorems.specs.Names.{leb, eqb-true, eqb-false, eq-eqb, ne-eqb, le-leb, all, removed, statusOf, lockIn, packets, fresh, current, packetAt}
-use Rattle.theorems.specs.Names.{answersOf, after, perform, number, unseen, both, bool-cases, map, getD, Accepted, Refused, Malformed, LockRange}
+use Rattle.theorems.specs.Names.{LockState, Cluster, Call, Answer, _≡_, refl, sym, ap, _∙_, true, List, [], _∷_, ℕ, leb, le-leb, all, statusOf, lockIn}
+use Rattle.theorems.specs.Names.{fresh, answersOf, after, perform, number, unseen, both, map, getD, Accepted, Refused, Malformed, LockRange}
 use Rattle.theorems.specs.Names.{MachineRange, TaskRange, ModeRange, NotIdle, StillNamed, NotHolding, IndexRange, CannotPlace, WireFull, BadRecord}
 use Rattle.theorems.specs.Names.{TranscriptLength, NotQuiescent}
-use Rattle.theorems.specs.Tally.{tally}
-use Rattle.theorems.specs.Weights.{agentS, agentP, incarnationS, incarnationP, markP, fitsP, misfitP}
-use Rattle.theorems.specs.Invariant.{Inv}
-use Rattle.theorems.specs.InvariantStep.{Split, split-at}
-use Rattle.theorems.specs.Facts.{fit, came-fits, away-of, wire-bound, marks-bound, silent-equal, differ}
+use Rattle.theorems.specs.Facts.{wire-bound}
 use Rattle.theorems.specs.Fresh.{all-idle}
-use Rattle.theorems.specs.Exclusion.{carried-away, one-exclusive}
+use Rattle.theorems.specs.Exclusion.{one-exclusive}
 use Rattle.theorems.specs.Runs.{Reached, lock-fresh, reached-fresh, reached-next, reached, number-below}
 use Rattle.theorems.specs.Traced.{agrees}
-use Rattle.theorems.specs.Statements.{Numbered, StaysFormed, NeverRefusedInside, WireBounded, OthersUntouched, Exclusion, TraceAgrees}
-use Rattle.theorems.specs.Statements.{ExclusionOfTrace, provedBound, IncarnationSound}
+use Rattle.theorems.specs.Statements.{Numbered, StaysFormed, NeverRefusedInside, WireBounded, OthersUntouched, Exclusion, TraceAgrees, ExclusionOfTrace}
+use Rattle.theorems.specs.Statements.{provedBound}
 
 -- the answers in the order of their numbers
 abbrev table : List Answer
@@ -76,35 +71,3 @@ trace-agrees cs l c = sym (agrees cs l c fresh unseen reached-fresh (sym (ap (λ
 
 pub exclusion-of-trace : (cs : List Call) → ExclusionOfTrace cs
 exclusion-of-trace cs l c d m n hc hd = exclusion cs l c d m n (trace-agrees cs l c ∙ hc) (trace-agrees cs l d ∙ hd)
-
--- an agent in a packet: equal incarnations and no mark, or neither
-module _ (s : LockState) (i : Inv s) (j : ℕ) (h : j < length (packets (s .wire))) (e : packetAt s j .carried .present ≡ true) where
-  abbrev p : Packet
-  p = packetAt s j
-
-  sp : Split s (p ∷ []) (removed (packets (s .wire)) j)
-  sp = split-at s j p h refl
-
-  carries : agentP p ≡ 1
-  unfolding agentS
-  carries = rw e
-
-  carried : incarnationP p ≡ p .carried .agent .incarnation
-  unfolding incarnationS
-  carried = rw e
-
-  small : p .carried .agent .incarnation < 256
-  unfolding misfitP
-  small =
-      let f = fit (fitsP (s .decider .owner) p) (came-fits s _ p i sp) in
-      away-of (p .carried .agent) (carried-away (s .decider .owner) (p .to) (p .rejected) _ (p .message) (rw e at f)) .small
-
-  current-sound : current (s .decider) p ≡ eqb (tally markP (packets (s .wire))) 0
-  current-sound =
-      bool-cases (current (s .decider) p) (λ q. q ∙ sym (eq-eqb _ 0 (silent-equal s p _ i sp carries (carried ∙ eqb-true _ _ q))))
-      (λ q.
-      let d : 1 ≤ tally markP (packets (s .wire)) = differ s p _ i sp carries (omega (arith, carried, small)) (λ w. eqb-false _ _ q (sym carried ∙ w)) in
-      q ∙ sym (ne-eqb (tally markP (packets (s .wire))) 0 (λ z. omega (arith, z, d))))
-
-pub incarnation-sound : (cs : List Call) → IncarnationSound cs
-incarnation-sound cs = record { bounded = λ l. marks-bound _ (reached cs .invs l); sound = λ l. current-sound _ (reached cs .invs l) }

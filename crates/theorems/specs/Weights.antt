@@ -3,7 +3,7 @@
 use Rattle.theorems.specs.Names.{Bool, true, false, _&&_, not, ℕ, _+_, _*_, length, getD, eqb, leb, ltb, MachineId, ClientId, Mode, Exclusive, Shared}
 use Rattle.theorems.specs.Names.{Owner, Unowned, Owned, Waiter, Agent, AgentSlot, Address, ToDecider, ToMachine, Message, Acquire, Grant, Release, Free}
 use Rattle.theorems.specs.Names.{Packet, Status, Idle, Waiting, Holding, LockState, waiters, noAgent, idle, packets, machines, clients, machineOf}
-use Rattle.theorems.specs.Names.{ownedShared}
+use Rattle.theorems.specs.Names.{ownedShared, isMarked}
 use Rattle.theorems.specs.Tally.{flag, gate, tally}
 
 abbrev pub statusAt : LockState → ℕ → Status
@@ -98,11 +98,7 @@ abbrev pub incarnationP : Packet → ℕ
 incarnationP p = incarnationS (p .carried)
 
 unfoldable pub markAll : Message → ℕ
-markAll (Acquire c n false) = 0
-markAll (Acquire c n true) = 1
-markAll (Grant c n) = 0
-markAll (Release c) = 0
-markAll Free = 0
+markAll m = flag (isMarked m)
 
 abbrev pub markP : Packet → ℕ
 markP p = markAll (p .message)
