@@ -1,5 +1,6 @@
 """explain: what each step of a transcript did, in words, from the lines that inspect writes."""
 from desk.command import Options, run
+from desk.lines import agents_of
 from desk.refusals import reason
 from desk.rules import said
 from desk.step import steps
@@ -51,13 +52,22 @@ def on_wire(number, one):
     return f"{number}: {packet(one)}{inside}, to {place(one['to'])}"
 
 
-def table(state):
-    """The whole state of a lock."""
+def counted(counts, state):
+    """Agents and marked ACQUIREs, and by how much the one agent is behind the decider."""
+    words = f"{count(counts['agents'], 'agent')}; {count(counts['marked'], 'marked ACQUIRE')}"
+    if counts["agents"] != 1:
+        return words
+    behind = state["decider"]["incarnation"], agents_of(state)[0]["incarnation"]
+    return f"{words}; the decider's {behind[0]} less the agent's {behind[1]} is {(behind[0] - behind[1]) % 256}"
+
+
+def table(counts, state):
+    """The whole state of a lock, and what is counted in it."""
     agents = [f"machine {machine}: {agent(one)}" for machine, one in enumerate(state["agents"]) if one]
     busy = [f"{client(number)} {status(one)}" for number, one in enumerate(state["clients"]) if one["mode"]]
     wire = [on_wire(number, one) for number, one in enumerate(state["wire"])]
     parts = [("decider", [decider(state["decider"])]), ("agents", agents or ["none on a machine"]),
-             ("clients", ["; ".join(busy) or "all idle"]), ("wire", wire or ["empty"])]
+             ("clients", ["; ".join(busy) or "all idle"]), ("wire", wire or ["empty"]), ("counts", [counted(counts, state)])]
     for name, rows in parts:
         for number, row in enumerate(rows):
             yield f"{INDENT}| {'' if number else name:8}| {row}"
@@ -90,11 +100,11 @@ def text(options, lines):
             continue
         out += explained(step)
         if options.state and step.after:
-            out += table(step.after)
+            out += table(step.line["counts"], step.after)
     return "\n".join(out) + "\n"
 
 
 def main():
     parser = Options("explain", "Says in words what each step of a transcript did, who holds and who waits.")
-    parser.add_argument("--state", action="store_true", help="after each step a table of its lock: decider, agents, clients that are not idle, wire")
+    parser.add_argument("--state", action="store_true", help="after each step a table of its lock: decider, agents, clients that are not idle, wire, counts")
     run(parser, text)

@@ -7,8 +7,8 @@ from desk.lines import NotLines, name_of, read
 
 PAGE = pathlib.Path(__file__).resolve().parent.parent / "docs/inspect.md"
 # which object a field holds, or a list of which
-INSIDE = {"state": "state", "decider": "decider", "agents": "agent", "clients": "client", "wire": "packet", "queue": "waiter", "agent": "agent",
-          "drains": "drain"}
+INSIDE = {"state": "state", "counts": "counts", "decider": "decider", "agents": "agent", "clients": "client", "wire": "packet", "queue": "waiter",
+          "agent": "agent", "drains": "drain"}
 
 
 def tables():
@@ -28,7 +28,8 @@ def difference(name, value, fields):
         has = " ".join(value) if isinstance(value, dict) else json.dumps(value)
         return f"{name} should have the fields {' '.join(fields[name])}, and has {has}"
     for field, held in value.items():
-        if field not in INSIDE:
+        # the agents of counts are a number
+        if field not in INSIDE or name == "counts":
             continue
         for one in held if isinstance(held, list) else [held]:
             wrong = None if one is None else difference(INSIDE[field], one, fields)

@@ -37,15 +37,16 @@ BYTE, CLIENT, MODE, FLAG = number(255), number(CLIENTS - 1), one_of(2, 3), one_o
 
 
 def record(kind, *fields):
-    """A record's line: its number and kind, its bytes, the answer and the state."""
+    """A record's line: its number and kind, its bytes, the answer, the state and what is counted in it."""
     return {"n": number(65535), "kind": one_of(kind), **{field: BYTE for field in fields},
-            "answer": one_of(*ANSWERS[kind]), "state": or_null(thing("state"))}
+            "answer": one_of(*ANSWERS[kind]), "state": or_null(thing("state")), "counts": or_null(thing("counts"))}
 
 
 FORMS = {
     "acquire": record("acquire", "lock", "machine", "task", "mode"),
     "release": record("release", "lock", "machine", "task"),
     "deliver": record("deliver", "lock", "index"),
+    "counts": {"agents": number(MACHINES + WIRE), "marked": number(WIRE)},
     "state": {"decider": thing("decider"), "agents": rows(or_null(thing("agent")), MACHINES),
               "clients": rows(thing("client"), CLIENTS), "wire": rows(thing("packet"))},
     "decider": {"mode": one_of(0, 2, 3), "machine": or_null(number(MACHINES - 1)), "incarnation": BYTE},
@@ -67,9 +68,20 @@ def whole_packet(packet):
             and (carries if kind == "FREE" else not carries or kind == "GRANT"))
 
 
+def agents_of(state):
+    """The agents, on machines and in packets."""
+    return [agent for agent in [*state["agents"], *(packet["agent"] for packet in state["wire"])] if agent is not None]
+
+
+def shown(state):
+    """A state, or null, and what is counted in it: how a record's line ends."""
+    counts = state and {"agents": len(agents_of(state)), "marked": sum(packet["granted"] for packet in state["wire"])}
+    return {"state": state, "counts": counts}
+
+
 def whole_record(line):
-    """There is a state exactly where there is such a lock."""
-    return (line["state"] is None) == (line["answer"] == 1)
+    """There is a state exactly where there is such a lock, and what is counted is what it has."""
+    return (line["state"] is None) == (line["answer"] == 1) and line["counts"] == shown(line["state"])["counts"]
 
 
 WHOLE = {

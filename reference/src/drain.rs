@@ -16,10 +16,19 @@ impl Cluster {
     /// Drains a lock and returns the number of steps; a refused drain leaves
     /// the cluster as given.
     pub fn drain(&mut self, lock: LockId) -> Result<u16, Refusal> {
+        self.drain_with(lock, |_, _| ())
+    }
+
+    /// Drains a lock and shows its state after every step, with the step's number.
+    pub fn drain_with(
+        &mut self,
+        lock: LockId,
+        show: impl FnMut(u16, &LockState),
+    ) -> Result<u16, Refusal> {
         self.check_well_formed()?;
         let state = self.lock_mut(lock)?;
         let mut drained = state.clone();
-        let steps = drained.drain()?;
+        let steps = drained.drain(show)?;
         *state = drained;
         Ok(steps)
     }
@@ -31,7 +40,7 @@ impl LockState {
         self.next_drain_step().is_none()
     }
 
-    fn drain(&mut self) -> Result<u16, Refusal> {
+    fn drain(&mut self, mut show: impl FnMut(u16, &LockState)) -> Result<u16, Refusal> {
         let mut steps = 0;
         while let Some(step) = self.next_drain_step() {
             if steps == DRAIN_LIMIT {
@@ -39,6 +48,7 @@ impl LockState {
             }
             self.perform(step)?;
             steps += 1;
+            show(steps, self);
         }
         Ok(steps)
     }

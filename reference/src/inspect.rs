@@ -2,6 +2,7 @@
 //! with the state of its lock, and one for the end.
 
 use crate::answer::{answer_number, Outcome, Refusal};
+use crate::counts::Counts;
 use crate::model::{
     Address, Agent, ClientId, ClientStatus, Cluster, Decider, LockId, LockState, Message, Mode,
     Packet, Waiter, CLIENTS, LOCKS,
@@ -32,12 +33,12 @@ fn record_line(
     out: &mut dyn Write,
 ) -> io::Result<()> {
     let (call, answer) = (Json(record), answer_number(&outcome));
-    // A lock out of range has no state.
-    let state = OrNull(cluster.locks.get(record.lock().index()).map(Json));
-    writeln!(
-        out,
-        r#"{{"n":{number},{call},"answer":{answer},"state":{state}}}"#
-    )
+    // A lock out of range has no state, and nothing to count.
+    let state = cluster.locks.get(record.lock().index());
+    let counts = state.map(Counts::of);
+    let (state, counts) = (OrNull(state.map(Json)), OrNull(counts.as_ref().map(Json)));
+    write!(out, r#"{{"n":{number},{call},"answer":{answer},"#)?;
+    writeln!(out, r#""state":{state},"counts":{counts}}}"#)
 }
 
 fn end_line(outcome: TranscriptOutcome, cluster: &Cluster, out: &mut dyn Write) -> io::Result<()> {
@@ -130,6 +131,13 @@ impl fmt::Display for Json<'_, LockState> {
         let wire = List(self.0.wire.iter().map(Json));
         write!(f, r#"{{"decider":{decider},"agents":[{agents}],"#)?;
         write!(f, r#""clients":[{clients}],"wire":[{wire}]}}"#)
+    }
+}
+
+impl fmt::Display for Json<'_, Counts> {
+    fn fmt(&self, f: &mut fmt::Formatter) -> fmt::Result {
+        let Counts { agents, marked } = *self.0;
+        write!(f, r#"{{"agents":{agents},"marked":{marked}}}"#)
     }
 }
 

@@ -5,6 +5,7 @@
 //! call leaves the cluster exactly as it was.
 
 pub mod answer;
+pub mod counts;
 mod delivery;
 pub mod digest;
 mod drain;

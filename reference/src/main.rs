@@ -40,7 +40,9 @@ fn main() -> ExitCode {
         ["counts"] => counts(&mut out),
         _ => Err(usage()),
     };
-    match done.and_then(|()| out.flush()) {
+    // The lines before an error come out before its words.
+    let flushed = out.flush();
+    match done.and(flushed) {
         Ok(()) => ExitCode::SUCCESS,
         Err(error) => {
             eprintln!("{error}");
@@ -116,6 +118,9 @@ fn counts(out: &mut dyn Write) -> io::Result<()> {
         writeln!(out, "{name} longest wire {}", tally.longest_wire)?;
         writeln!(out, "{name} incarnation wraps {}", tally.incarnation_wraps)?;
         writeln!(out, "{name} malformed states {}", tally.malformed_states)?;
+        write!(out, "{name} tested records {} ", tally.tested_records)?;
+        write!(out, "most marked {} ", tally.most_marked)?;
+        writeln!(out, "most packets {}", tally.most_packets)?;
     }
     Ok(())
 }

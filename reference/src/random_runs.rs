@@ -1,9 +1,9 @@
 //! Random runs of calls and drains (docs/random-runs.md).
 
-use crate::answer::answer_number;
+use crate::answer::{answer_number, Outcome};
 use crate::digest::Digest;
 use crate::generator::Generator;
-use crate::model::Cluster;
+use crate::model::{Cluster, LockId};
 use crate::random_calls::{Call, Profile, DRAIN};
 use crate::report::{Observation, Report};
 use std::io;
@@ -27,6 +27,7 @@ pub struct Run {
     digest: Digest,
     step: u64,
     accepted: u64,
+    is_tested: bool,
 }
 
 /// Runs one seed of `runs`.
@@ -34,7 +35,8 @@ pub fn random_run(seed: u64, report: &mut Report) -> io::Result<()> {
     let profile = Profile::of_seed(seed);
     let generator = Generator::new(seed);
     let cluster = Cluster::new();
-    Run::new("run", seed, profile, generator, cluster).finish(report)
+    let run = Run::new("run", seed, profile, generator, cluster);
+    run.tested().finish(report)
 }
 
 impl Run {
@@ -56,7 +58,14 @@ impl Run {
             digest,
             step: 0,
             accepted: 0,
+            is_tested: false,
         }
+    }
+
+    /// The same run with every step tested; hand-made states need not pass these tests.
+    pub fn tested(self) -> Self {
+        let is_tested = true;
+        Run { is_tested, ..self }
     }
 
     pub fn finish(mut self, report: &mut Report) -> io::Result<()> {
@@ -95,13 +104,25 @@ impl Run {
         if self.step.is_multiple_of(CLUSTER_STEPS) {
             self.digest.cluster(&self.cluster);
         }
-        self.step_line(call, answer, 0, &self.cluster, report)
+        self.step_line(call, answer, 0, &self.cluster, report)?;
+        self.test_call(call, &outcome, report)
     }
 
     /// A drain on a copy, which the run keeps or forgets by its seed.
     fn drain(&mut self, call: Call, report: &mut Report) -> io::Result<()> {
         let mut drained = self.cluster.clone();
-        let outcome = drained.drain(call.lock);
+        let mut tested = Ok(());
+        let outcome = drained.drain_with(call.lock, |number, state| {
+            // A drain cannot be stopped from here; after a failure it goes on untested.
+            if self.is_tested && tested.is_ok() {
+                let result = report.tally.test_record(state);
+                tested = result.map_err(|broken| format!("drain step {number}: {broken}"));
+            }
+        });
+        if self.is_tested {
+            // The last step has tested the state already.
+            tested = tested.and_then(|()| report.tally.test_call(call.kind, &outcome, None));
+        }
         let (answer, count) = (answer_number(&outcome), outcome.unwrap_or(0));
         report.tally.count(call.kind, answer);
         report.tally.count_drain(count);
@@ -109,10 +130,27 @@ impl Run {
         self.digest.bytes(&count.to_le_bytes());
         self.digest.cluster(&drained);
         self.step_line(call, answer, count, &drained, report)?;
+        self.stop_if_broken(call.lock, tested)?;
         if self.seed / 16 % 2 == 1 {
             self.cluster = drained;
         }
         Ok(())
+    }
+
+    fn test_call(&self, call: Call, outcome: &Outcome, report: &mut Report) -> io::Result<()> {
+        if !self.is_tested {
+            return Ok(());
+        }
+        let state = self.cluster.locks.get(call.lock.index());
+        let tested = report.tally.test_call(call.kind, outcome, state);
+        self.stop_if_broken(call.lock, tested)
+    }
+
+    /// The error ends the program, and its words are the last line.
+    fn stop_if_broken(&self, lock: LockId, tested: Result<(), String>) -> io::Result<()> {
+        let (label, seed, step, lock) = (self.label, self.seed, self.step, lock.0);
+        let line = |broken| format!("{label} {seed} step {step} lock {lock}: {broken}");
+        tested.map_err(|broken: String| io::Error::other(line(broken)))
     }
 
     fn step_line(

@@ -30,10 +30,10 @@ pub fn random_transcript(seed: u64, report: &mut Report) -> io::Result<()> {
     let text = listing(&bytes);
     let mut digest = Digest::new(seed);
     digest.bytes(text.as_bytes());
-    count_answers(&bytes, report);
     if report.each_step {
         report.out.write_all(text.as_bytes())?;
     }
+    count_answers(seed, &bytes, report)?;
     let (length, lines, digest) = (bytes.len(), text.lines().count(), digest.value());
     writeln!(
         report.out,
@@ -41,12 +41,24 @@ pub fn random_transcript(seed: u64, report: &mut Report) -> io::Result<()> {
     )
 }
 
-fn count_answers(bytes: &[u8], report: &mut Report) {
+/// Counts the answers, and tests each call as in a run, since the cluster was fresh here too.
+fn count_answers(seed: u64, bytes: &[u8], report: &mut Report) -> io::Result<()> {
     let tally = &mut report.tally;
-    let whole = Cluster::new().run_transcript_with(bytes, |_, record, outcome, _| {
-        tally.count(record.kind() as u8, answer_number(&outcome));
+    let mut tested = Ok(());
+    let whole = Cluster::new().run_transcript_with(bytes, |number, record, outcome, cluster| {
+        let (kind, lock) = (record.kind() as u8, record.lock());
+        tally.count(kind, answer_number(&outcome));
+        // A transcript cannot be stopped from here; after a failure it goes on untested.
+        if tested.is_ok() {
+            let result = tally.test_call(kind, &outcome, cluster.locks.get(lock.index()));
+            tested = result.map_err(|broken| {
+                let place = format!("transcript {seed} record {number} lock {}", lock.0);
+                io::Error::other(format!("{place}: {broken}"))
+            });
+        }
     });
     tally.count(0, answer_number(&whole.answer));
+    tested
 }
 
 /// The bytes of the transcript with this seed.

@@ -1,6 +1,8 @@
 //! Where the lines of random runs go, and what was met on the way.
 
-use crate::model::{Cluster, LockId, WIRE_CAPACITY};
+use crate::answer::Refusal;
+use crate::counts::Counts;
+use crate::model::{Cluster, LockId, LockState, WIRE_CAPACITY};
 use std::io::Write;
 
 /// Kinds of calls: 0 a whole transcript, then acquire, release, deliver, drain.
@@ -16,6 +18,10 @@ pub struct Tally {
     pub longest_wire: usize,
     pub incarnation_wraps: u64,
     pub malformed_states: u64,
+    /// How many states of locks were tested, and the most that was counted in one.
+    pub tested_records: u64,
+    pub most_marked: usize,
+    pub most_packets: usize,
 }
 
 impl Tally {
@@ -37,6 +43,38 @@ impl Tally {
         if after.wire <= WIRE_CAPACITY {
             self.longest_wire = self.longest_wire.max(after.wire);
         }
+    }
+
+    /// Tests the state of a lock that a fresh cluster came to, and notes its counts.
+    pub fn test_record(&mut self, state: &LockState) -> Result<(), String> {
+        self.tested_records += 1;
+        self.most_marked = self.most_marked.max(Counts::of(state).marked);
+        self.most_packets = self.most_packets.max(state.wire.len());
+        state.check_counts()
+    }
+
+    /// The same after a call, with its answer; a lock out of range has no state.
+    pub fn test_call<T>(
+        &mut self,
+        kind: u8,
+        outcome: &Result<T, Refusal>,
+        state: Option<&LockState>,
+    ) -> Result<(), String> {
+        if let Some(state) = state {
+            self.test_record(state)?;
+        }
+        check_answer(kind, outcome)
+    }
+}
+
+/// No call and no drain from a fresh cluster meets refusals 9 and 10 (document 02, §1).
+fn check_answer<T>(kind: u8, outcome: &Result<T, Refusal>) -> Result<(), String> {
+    match outcome {
+        Err(refusal @ (Refusal::CannotBePlaced | Refusal::WireFull)) => {
+            let (name, answer) = (KINDS[usize::from(kind)], refusal.number());
+            Err(format!("{name} is answered {answer}"))
+        }
+        _ => Ok(()),
     }
 }
 

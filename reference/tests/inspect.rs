@@ -31,7 +31,8 @@ const TAKE_LINES: &str = r#"
  "clients":[{"status":"waiting","mode":3},IDLE,IDLE,IDLE,
  IDLE,IDLE,IDLE,IDLE,IDLE,IDLE,IDLE,IDLE,IDLE,IDLE,IDLE,IDLE],
  "wire":[{"kind":"ACQUIRE","to":null,"client":0,"mode":3,
- "granted":false,"rejected":false,"agent":null}]}}
+ "granted":false,"rejected":false,"agent":null}]},
+ "counts":{"agents":0,"marked":0}}
 {"n":2,"kind":"deliver","lock":0,"index":0,"answer":0,"state":{
  "decider":{"mode":3,"machine":0,"incarnation":0},
  "agents":[null,null,null,null],
@@ -39,13 +40,15 @@ const TAKE_LINES: &str = r#"
  IDLE,IDLE,IDLE,IDLE,IDLE,IDLE,IDLE,IDLE,IDLE,IDLE,IDLE,IDLE],
  "wire":[{"kind":"GRANT","to":0,"client":0,"mode":3,
  "granted":false,"rejected":false,
- "agent":{"mode":3,"holders":[],"queue":[],"incarnation":0}}]}}
+ "agent":{"mode":3,"holders":[],"queue":[],"incarnation":0}}]},
+ "counts":{"agents":1,"marked":0}}
 {"n":3,"kind":"deliver","lock":0,"index":0,"answer":0,"state":{
  "decider":{"mode":3,"machine":0,"incarnation":0},
  "agents":[{"mode":3,"holders":[0],"queue":[],"incarnation":0},null,null,null],
  "clients":[{"status":"holding","mode":3},IDLE,IDLE,IDLE,
  IDLE,IDLE,IDLE,IDLE,IDLE,IDLE,IDLE,IDLE,IDLE,IDLE,IDLE,IDLE],
- "wire":[]}}
+ "wire":[]},
+ "counts":{"agents":1,"marked":0}}
 "#;
 
 /// 1/0 asks as well, and the decider grants it (D2).
@@ -62,7 +65,8 @@ const SHARE_LINES: &str = r#"
  {"status":"waiting","mode":3},IDLE,IDLE,IDLE,
  IDLE,IDLE,IDLE,IDLE,IDLE,IDLE,IDLE,IDLE],
  "wire":[{"kind":"ACQUIRE","to":null,"client":4,"mode":3,
- "granted":false,"rejected":false,"agent":null}]}}
+ "granted":false,"rejected":false,"agent":null}]},
+ "counts":{"agents":1,"marked":0}}
 {"n":5,"kind":"deliver","lock":0,"index":0,"answer":0,"state":{
  "decider":{"mode":3,"machine":0,"incarnation":1},
  "agents":[{"mode":3,"holders":[0],"queue":[],"incarnation":0},null,null,null],
@@ -72,7 +76,8 @@ const SHARE_LINES: &str = r#"
  "wire":[{"kind":"GRANT","to":1,"client":4,"mode":3,
  "granted":false,"rejected":false,"agent":null},
  {"kind":"ACQUIRE","to":0,"client":4,"mode":3,
- "granted":true,"rejected":false,"agent":null}]}}
+ "granted":true,"rejected":false,"agent":null}]},
+ "counts":{"agents":1,"marked":1}}
 "#;
 
 fn unfolded(parts: &[&str]) -> String {
@@ -121,7 +126,8 @@ fn a_line_in_full() {
         r#"{"status":"idle","mode":null},{"status":"idle","mode":null},"#,
         r#"{"status":"waiting","mode":2},{"status":"idle","mode":null}],"#,
         r#""wire":[{"kind":"ACQUIRE","to":null,"client":14,"mode":2,"#,
-        r#""granted":false,"rejected":false,"agent":null}]}}"#,
+        r#""granted":false,"rejected":false,"agent":null}]},"#,
+        r#""counts":{"agents":0,"marked":0}}"#,
         "\n",
         r#"{"end":"end","answer":0,"records":1,"drains":["#,
         r#"{"lock":0,"answer":0,"count":0},{"lock":1,"answer":0,"count":0},"#,
@@ -147,19 +153,22 @@ const EXAMPLE_TAIL_LINES: &str = r#"
  IDLE,IDLE,IDLE,IDLE,IDLE,IDLE,IDLE,IDLE],
  "wire":[{"kind":"FREE","to":null,"client":null,"mode":null,
  "granted":false,"rejected":false,
- "agent":{"mode":3,"holders":[],"queue":[],"incarnation":0}}]}}
+ "agent":{"mode":3,"holders":[],"queue":[],"incarnation":0}}]},
+ "counts":{"agents":1,"marked":0}}
 {"n":5,"kind":"deliver","lock":0,"index":0,"answer":0,"state":{
  "decider":{"mode":0,"machine":null,"incarnation":0},
  "agents":[null,null,null,null],
  "clients":[IDLE,IDLE,IDLE,IDLE,IDLE,IDLE,IDLE,IDLE,
  IDLE,IDLE,IDLE,IDLE,IDLE,IDLE,IDLE,IDLE],
- "wire":[]}}
+ "wire":[]},
+ "counts":{"agents":0,"marked":0}}
 {"n":6,"kind":"deliver","lock":0,"index":0,"answer":8,"state":{
  "decider":{"mode":0,"machine":null,"incarnation":0},
  "agents":[null,null,null,null],
  "clients":[IDLE,IDLE,IDLE,IDLE,IDLE,IDLE,IDLE,IDLE,
  IDLE,IDLE,IDLE,IDLE,IDLE,IDLE,IDLE,IDLE],
- "wire":[]}}
+ "wire":[]},
+ "counts":{"agents":0,"marked":0}}
 {"end":"end","answer":0,"records":6,"drains":[{"lock":0,"answer":0,"count":0},REST]}
 "#;
 
@@ -192,7 +201,8 @@ const EARLY_FREE_LINES: &str = r#"
  "granted":true,"rejected":false,"agent":null},
  {"kind":"FREE","to":null,"client":null,"mode":null,
  "granted":false,"rejected":false,
- "agent":{"mode":3,"holders":[],"queue":[],"incarnation":0}}]}}
+ "agent":{"mode":3,"holders":[],"queue":[],"incarnation":0}}]},
+ "counts":{"agents":1,"marked":1}}
 {"n":7,"kind":"deliver","lock":0,"index":2,"answer":0,"state":{
  "decider":{"mode":3,"machine":0,"incarnation":1},
  "agents":[null,null,null,null],
@@ -204,7 +214,8 @@ const EARLY_FREE_LINES: &str = r#"
  "granted":true,"rejected":false,"agent":null},
  {"kind":"FREE","to":0,"client":null,"mode":null,
  "granted":false,"rejected":true,
- "agent":{"mode":3,"holders":[],"queue":[],"incarnation":0}}]}}
+ "agent":{"mode":3,"holders":[],"queue":[],"incarnation":0}}]},
+ "counts":{"agents":1,"marked":1}}
 {"end":"end","answer":0,"records":7,"drains":[{"lock":0,"answer":0,"count":9},REST]}
 "#;
 
@@ -229,21 +240,24 @@ const TWO_HOLDERS_LINES: &str = r#"
  {"status":"holding","mode":3},IDLE,IDLE,IDLE,
  IDLE,IDLE,IDLE,IDLE,IDLE,IDLE,IDLE,IDLE],
  "wire":[{"kind":"ACQUIRE","to":0,"client":4,"mode":3,
- "granted":true,"rejected":false,"agent":null}]}}
+ "granted":true,"rejected":false,"agent":null}]},
+ "counts":{"agents":1,"marked":1}}
 {"n":7,"kind":"deliver","lock":0,"index":0,"answer":0,"state":{
  "decider":{"mode":3,"machine":0,"incarnation":1},
  "agents":[{"mode":3,"holders":[0,4],"queue":[],"incarnation":1},null,null,null],
  "clients":[{"status":"holding","mode":3},IDLE,IDLE,IDLE,
  {"status":"holding","mode":3},IDLE,IDLE,IDLE,
  IDLE,IDLE,IDLE,IDLE,IDLE,IDLE,IDLE,IDLE],
- "wire":[]}}
+ "wire":[]},
+ "counts":{"agents":1,"marked":0}}
 {"n":8,"kind":"release","lock":0,"machine":1,"task":0,"answer":0,"state":{
  "decider":{"mode":3,"machine":0,"incarnation":1},
  "agents":[{"mode":3,"holders":[0,4],"queue":[],"incarnation":1},null,null,null],
  "clients":[{"status":"holding","mode":3},IDLE,IDLE,IDLE,IDLE,IDLE,IDLE,IDLE,
  IDLE,IDLE,IDLE,IDLE,IDLE,IDLE,IDLE,IDLE],
  "wire":[{"kind":"RELEASE","to":null,"client":4,"mode":null,
- "granted":false,"rejected":false,"agent":null}]}}
+ "granted":false,"rejected":false,"agent":null}]},
+ "counts":{"agents":1,"marked":0}}
 {"end":"end","answer":0,"records":8,"drains":[{"lock":0,"answer":0,"count":4},REST]}
 "#;
 
@@ -271,7 +285,8 @@ const REJECTED_GRANT_LINES: &str = r#"
  "granted":true,"rejected":false,"agent":null},
  {"kind":"GRANT","to":0,"client":8,"mode":2,
  "granted":false,"rejected":true,
- "agent":{"mode":3,"holders":[],"queue":[],"incarnation":0}}]}}
+ "agent":{"mode":3,"holders":[],"queue":[],"incarnation":0}}]},
+ "counts":{"agents":1,"marked":1}}
 {"n":11,"kind":"deliver","lock":0,"index":2,"answer":0,"state":{
  "decider":{"mode":3,"machine":0,"incarnation":1},
  "agents":[{"mode":3,"holders":[],"queue":[{"client":8,"mode":2}],"incarnation":0},
@@ -281,7 +296,8 @@ const REJECTED_GRANT_LINES: &str = r#"
  "wire":[{"kind":"GRANT","to":1,"client":4,"mode":3,
  "granted":false,"rejected":false,"agent":null},
  {"kind":"ACQUIRE","to":0,"client":4,"mode":3,
- "granted":true,"rejected":false,"agent":null}]}}
+ "granted":true,"rejected":false,"agent":null}]},
+ "counts":{"agents":1,"marked":1}}
 {"end":"end","answer":0,"records":11,"drains":[{"lock":0,"answer":0,"count":9},REST]}
 "#;
 
@@ -310,7 +326,8 @@ const QUEUE_LINES: &str = r#"
  "clients":[{"status":"holding","mode":2},{"status":"waiting","mode":3},IDLE,IDLE,
  IDLE,IDLE,IDLE,IDLE,{"status":"waiting","mode":2},IDLE,IDLE,IDLE,
  IDLE,IDLE,IDLE,IDLE],
- "wire":[]}}
+ "wire":[]},
+ "counts":{"agents":1,"marked":0}}
 {"n":8,"kind":"release","lock":0,"machine":0,"task":0,"answer":0,"state":{
  "decider":{"mode":2,"machine":0,"incarnation":0},
  "agents":[null,null,null,null],
@@ -319,7 +336,8 @@ const QUEUE_LINES: &str = r#"
  IDLE,IDLE,IDLE,IDLE],
  "wire":[{"kind":"GRANT","to":null,"client":1,"mode":3,
  "granted":false,"rejected":false,
- "agent":{"mode":2,"holders":[],"queue":[{"client":8,"mode":2}],"incarnation":0}}]}}
+ "agent":{"mode":2,"holders":[],"queue":[{"client":8,"mode":2}],"incarnation":0}}]},
+ "counts":{"agents":1,"marked":0}}
 {"end":"end","answer":0,"records":8,"drains":[{"lock":0,"answer":0,"count":7},REST]}
 "#;
 
@@ -349,9 +367,9 @@ fn lock_out_of_range_has_no_state() {
         6, 0, 3, 0, 9, 40,
     ];
     let lines = r#"
-{"n":1,"kind":"acquire","lock":8,"machine":4,"task":5,"mode":1,"answer":1,"state":null}
-{"n":2,"kind":"release","lock":255,"machine":0,"task":6,"answer":1,"state":null}
-{"n":3,"kind":"deliver","lock":9,"index":40,"answer":1,"state":null}
+{"n":1,"kind":"acquire","lock":8,"machine":4,"task":5,"mode":1,"answer":1,"state":null,"counts":null}
+{"n":2,"kind":"release","lock":255,"machine":0,"task":6,"answer":1,"state":null,"counts":null}
+{"n":3,"kind":"deliver","lock":9,"index":40,"answer":1,"state":null,"counts":null}
 {"end":"end","answer":0,"records":3,"drains":[{"lock":0,"answer":0,"count":0},REST]}
 "#;
     assert_lines(&bytes, &[lines]);
@@ -364,14 +382,16 @@ const REFUSED_LINES: &str = r#"
  "clients":[{"status":"waiting","mode":3},IDLE,IDLE,IDLE,
  IDLE,IDLE,IDLE,IDLE,IDLE,IDLE,IDLE,IDLE,IDLE,IDLE,IDLE,IDLE],
  "wire":[{"kind":"ACQUIRE","to":null,"client":0,"mode":3,
- "granted":false,"rejected":false,"agent":null}]}}
+ "granted":false,"rejected":false,"agent":null}]},
+ "counts":{"agents":0,"marked":0}}
 {"n":3,"kind":"release","lock":7,"machine":4,"task":9,"answer":2,"state":{
  "decider":{"mode":0,"machine":null,"incarnation":0},
  "agents":[null,null,null,null],
  "clients":[{"status":"waiting","mode":3},IDLE,IDLE,IDLE,
  IDLE,IDLE,IDLE,IDLE,IDLE,IDLE,IDLE,IDLE,IDLE,IDLE,IDLE,IDLE],
  "wire":[{"kind":"ACQUIRE","to":null,"client":0,"mode":3,
- "granted":false,"rejected":false,"agent":null}]}}
+ "granted":false,"rejected":false,"agent":null}]},
+ "counts":{"agents":0,"marked":0}}
 {"end":"end","answer":0,"records":3,"drains":[
  {"lock":0,"answer":0,"count":0},{"lock":1,"answer":0,"count":0},
  {"lock":2,"answer":0,"count":0},{"lock":3,"answer":0,"count":0},

@@ -16,67 +16,6 @@ fn owned(mode: Mode, machine: u8, incarnation: u8) -> Decider {
     }
 }
 
-fn d1() -> Cluster {
-    let mut cluster = Cluster::new();
-    accepted(&[
-        acquire(&mut cluster, 0, 0, SHARED),
-        deliver(&mut cluster, 0),
-    ]);
-    cluster
-}
-
-fn d2() -> Cluster {
-    let mut cluster = d1();
-    accepted(&[
-        deliver(&mut cluster, 0),
-        acquire(&mut cluster, 1, 0, SHARED),
-        deliver(&mut cluster, 0),
-    ]);
-    cluster
-}
-
-fn d3() -> Cluster {
-    let mut cluster = d2();
-    accepted(&[release(&mut cluster, 0, 0), deliver(&mut cluster, 2)]);
-    cluster
-}
-
-fn d4() -> Cluster {
-    let mut cluster = d3();
-    accepted(&[deliver(&mut cluster, 2)]);
-    cluster
-}
-
-fn d6() -> Cluster {
-    let mut cluster = d2();
-    accepted(&[
-        deliver(&mut cluster, 0),
-        release(&mut cluster, 1, 0),
-        deliver(&mut cluster, 1),
-        deliver(&mut cluster, 1),
-    ]);
-    cluster
-}
-
-/// All sixteen clients have come and gone; nothing reached the agent.
-fn d13() -> Cluster {
-    let mut cluster = d1();
-    accepted(&[deliver(&mut cluster, 0), release(&mut cluster, 0, 0)]);
-    for number in 0..16 {
-        let (machine, task) = (number / 4, number % 4);
-        let last = lock(&cluster).wire.len() as u8;
-        accepted(&[
-            acquire(&mut cluster, machine, task, SHARED),
-            deliver(&mut cluster, last),
-            deliver(&mut cluster, last),
-        ]);
-    }
-    for number in 0..16 {
-        accepted(&[release(&mut cluster, number / 4, number % 4)]);
-    }
-    cluster
-}
-
 #[test]
 fn d1_first_request_takes_the_free_lock() {
     let cluster = d1();
@@ -124,8 +63,7 @@ fn d4_rejected_agent_is_restored() {
 
 #[test]
 fn d5_granted_request_reaches_the_restored_agent() {
-    let mut cluster = d4();
-    accepted(&[deliver(&mut cluster, 1)]);
+    let cluster = d5();
     assert_eq!(holders(agent(&cluster, 0)), [client(1, 0).0]);
     assert_eq!(agent(&cluster, 0).incarnation, 1);
 }

@@ -14,7 +14,7 @@ lock, null, false, empty or 0 is left out; the decider is [MODE,MACHINE,INCARNAT
 waiter as [CLIENT,MODE]; a packet with "times" stands that often."""
 import json
 
-from desk.lines import FORMS, LOCKS, fresh
+from desk.lines import FORMS, LOCKS, fresh, shown
 
 KINDS = {"acquire": ["lock", "machine", "task", "mode"], "release": ["lock", "machine", "task"], "deliver": ["lock", "index"]}
 MODES = {"shared": 3, "exclusive": 2}
@@ -40,12 +40,12 @@ class Case:
         lock = step["lock"]
         if lock < LOCKS:
             self.states[lock] = state or self.states.get(lock) or fresh()
-        self.objects.append({**step, "state": self.states.get(lock)})
+        self.objects.append({**step, **shown(self.states.get(lock))})
 
     def put_state(self, state):
         """The state after the last step."""
-        lock = self.objects[-1]["lock"]
-        self.states[lock] = self.objects[-1]["state"] = state
+        self.states[self.objects[-1]["lock"]] = state
+        self.objects[-1].update(shown(state))
 
 
 def numbered(number, words, answer):

@@ -2,7 +2,7 @@
 import json
 
 from cases import end_of, numbered, state_of
-from desk.lines import fresh
+from desk.lines import fresh, shown
 
 
 def lines(*objects):
@@ -11,11 +11,11 @@ def lines(*objects):
 
 def refused(number, lock=0):
     """A delivery from an empty wire."""
-    return {**numbered(number, f"deliver {lock} 0", 8), "state": fresh()}
+    return {**numbered(number, f"deliver {lock} 0", 8), **shown(fresh())}
 
 
 def after(number, words, state, answer=0):
-    return {**numbered(number, words, answer), "state": state_of(state)}
+    return {**numbered(number, words, answer), **shown(state_of(state))}
 
 
 def replaced(line, **fields):
@@ -52,6 +52,11 @@ NOT_LINES = [
     (lines(TURNED, end_of("1 = 0 {}")), FIRST),
     (lines(replaced(ASKED, more=0), end_of("1 = 0 {}")), FIRST),
     (lines(replaced(ASKED, state=None), end_of("1 = 0 {}")), FIRST),
+    (lines(replaced(ASKED, state=None, counts=None), end_of("1 = 0 {}")), FIRST),
+    (lines(replaced(ASKED, counts=None), end_of("1 = 0 {}")), FIRST),
+    (lines(replaced(ASKED, counts={"agents": 1, "marked": 0}), end_of("1 = 0 {}")), FIRST),
+    (lines(replaced(ASKED, counts={"agents": 0, "marked": 1}), end_of("1 = 0 {}")), FIRST),
+    (lines(replaced(ASKED, counts={"marked": 0, "agents": 0}), end_of("1 = 0 {}")), FIRST),
     (lines(replaced(ASKED, answer=8), end_of("1 = 0 {}")), FIRST),
     (lines(replaced(ASKED, lock=True), end_of("1 = 0 {}")), FIRST),
     (lines(replaced(ASKED, task=256), end_of("1 = 0 {}")), FIRST),
@@ -60,13 +65,13 @@ NOT_LINES = [
     (lines(after(1, "acquire 0 0/0 shared", '{"decider":[0,1,0]}'), end_of("1 = 0 {}")), FIRST),
     (lines(after(1, "acquire 0 0/0 shared", '{"clients":{"0":["idle",3]}}'), end_of("1 = 0 {}")), FIRST),
     (lines(after(1, "acquire 0 0/0 shared", '{"agents":{"0":{"mode":3,"holders":[1,0]}}}'), end_of("1 = 0 {}")), FIRST),
-    (lines({**numbered(1, "release 0 0/0", 7), "state": None}, end_of("1 = 0 {}")), FIRST),
-    (lines({**numbered(1, "deliver 0 0", 8), "state": None}, end_of("1 = 0 {}")), FIRST),
+    (lines({**numbered(1, "release 0 0/0", 7), **shown(None)}, end_of("1 = 0 {}")), FIRST),
+    (lines({**numbered(1, "deliver 0 0", 8), **shown(None)}, end_of("1 = 0 {}")), FIRST),
     (lines(after(1, "deliver 0 0", '{}'), end_of("1 = 0 {}")), FOLLOWS),
     (lines(refused(1), after(2, "deliver 0 1", '{"decider":[3,0,0]}', 8), end_of("2 = 0 {}")), FOLLOWS.replace("1", "2", 1)),
 ]
 
-NO_LOCK = lines({**numbered(1, "deliver 7 0", 1), "state": None}, end_of("1 = 0 {}"))
+NO_LOCK = lines({**numbered(1, "deliver 7 0", 1), **shown(None)}, end_of("1 = 0 {}"))
 LONG = lines(*(refused(number) for number in range(1, 62)), end_of("61 = 0 {}"))
 
 ERRORS = [

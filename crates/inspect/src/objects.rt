@@ -2,6 +2,8 @@
 use crate::parts::put_comma;
 use crate::parts::put_field;
 use crate::parts::put_state;
+use counts::agents_in;
+use counts::marks_in;
 use engine::drain;
 use engine::lock_calls::lock_of;
 use listing::put_text;
@@ -10,6 +12,7 @@ use model::Call;
 use model::Cluster;
 use model::LOCKS;
 use model::LockId;
+use model::LockState;
 use model::MachineId;
 use model::Replayed;
 use model::TaskId;
@@ -48,13 +51,22 @@ fn put_call(out: &mut [u8], at: usize, c: Call) -> usize {
     }
 }
 
+fn put_counts(out: &mut [u8], at: usize, s: LockState) -> usize {
+    let k = put_field(out, at, b"{\"agents\":", agents_in(s) as u16);
+    let k = put_field(out, k, b",\"marked\":", marks_in(s) as u16);
+    put_text(out, k, b"}")
+}
+
+// The lock's state, and what is counted in it.
 fn put_lock(out: &mut [u8], at: usize, x: Cluster, l: LockId) -> usize {
     if l.0 < LOCKS as u8 {
         let i = l.0 as usize;
         let s = x.locks[i];
-        put_state(out, at, s)
+        let k = put_state(out, at, s);
+        let k = put_text(out, k, b",\"counts\":");
+        put_counts(out, k, s)
     } else {
-        put_text(out, at, b"null")
+        put_text(out, at, b"null,\"counts\":null")
     }
 }
 

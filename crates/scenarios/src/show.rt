@@ -6,6 +6,8 @@ use by_hand::print;
 use by_hand::print::client;
 use by_hand::print::number;
 use by_hand::print::text;
+use counts::agents_in;
+use counts::marks_in;
 use model::Agent;
 use model::AgentSlot;
 use model::CLIENTS;
@@ -149,6 +151,13 @@ fn machine(agents: [AgentSlot; MACHINES], k: u8) {
     text(b"\n");
 }
 
+// The agents, on machines and in packets, and the marked ACQUIREs.
+fn counted(s: LockState) {
+    labelled(b"agents ", agents_in(s));
+    labelled(b", marked ", marks_in(s));
+    text(b"\n");
+}
+
 fn lock(s: LockState, k: usize, n: u8) {
     let c = s.clients;
     let a = s.agents;
@@ -157,6 +166,7 @@ fn lock(s: LockState, k: usize, n: u8) {
         3 => decider(s.decider),
         4 => machine(a, n),
         5 => wire(s.wire),
+        6 => counted(s),
         _ => {}
     }
 }
@@ -164,7 +174,11 @@ fn lock(s: LockState, k: usize, n: u8) {
 // The cluster y is the one that was kept. The words' places are the cases here and in `lock`.
 pub fn shown(x: Cluster, y: Cluster, t: &[u8]) {
     let n = line::numbers_in(t);
-    let k = line::word(t, n.count, b"0fresh 0kept 1client 0decider 1machine 0wire");
+    let k = line::word(
+        t,
+        n.count,
+        b"0fresh 0kept 1client 0decider 1machine 0wire 0counts",
+    );
     match k {
         0 => print::either(
             same::clusters(x, engine::fresh()),

@@ -1,4 +1,4 @@
-//! Short ways to drive lock 0 in tests.
+//! Short ways to drive lock 0 in tests, and the states of the drills (document 01, 'Drills').
 #![allow(dead_code)]
 
 use reference::model::{
@@ -73,4 +73,71 @@ pub fn grant(client: ClientId, mode: Mode) -> Message {
 
 pub fn plain(message: Message, address: Address) -> Packet {
     Packet::new(message, address)
+}
+
+pub fn d1() -> Cluster {
+    let mut cluster = Cluster::new();
+    accepted(&[
+        acquire(&mut cluster, 0, 0, SHARED),
+        deliver(&mut cluster, 0),
+    ]);
+    cluster
+}
+
+pub fn d2() -> Cluster {
+    let mut cluster = d1();
+    accepted(&[
+        deliver(&mut cluster, 0),
+        acquire(&mut cluster, 1, 0, SHARED),
+        deliver(&mut cluster, 0),
+    ]);
+    cluster
+}
+
+pub fn d3() -> Cluster {
+    let mut cluster = d2();
+    accepted(&[release(&mut cluster, 0, 0), deliver(&mut cluster, 2)]);
+    cluster
+}
+
+pub fn d4() -> Cluster {
+    let mut cluster = d3();
+    accepted(&[deliver(&mut cluster, 2)]);
+    cluster
+}
+
+pub fn d5() -> Cluster {
+    let mut cluster = d4();
+    accepted(&[deliver(&mut cluster, 1)]);
+    cluster
+}
+
+pub fn d6() -> Cluster {
+    let mut cluster = d2();
+    accepted(&[
+        deliver(&mut cluster, 0),
+        release(&mut cluster, 1, 0),
+        deliver(&mut cluster, 1),
+        deliver(&mut cluster, 1),
+    ]);
+    cluster
+}
+
+/// All sixteen clients have come and gone; nothing reached the agent.
+pub fn d13() -> Cluster {
+    let mut cluster = d1();
+    accepted(&[deliver(&mut cluster, 0), release(&mut cluster, 0, 0)]);
+    for number in 0..16 {
+        let (machine, task) = (number / 4, number % 4);
+        let last = lock(&cluster).wire.len() as u8;
+        accepted(&[
+            acquire(&mut cluster, machine, task, SHARED),
+            deliver(&mut cluster, last),
+            deliver(&mut cluster, last),
+        ]);
+    }
+    for number in 0..16 {
+        accepted(&[release(&mut cluster, number / 4, number % 4)]);
+    }
+    cluster
 }

@@ -1,0 +1,2 @@
+-- The law of the loops that count.
+pub mod Counting
