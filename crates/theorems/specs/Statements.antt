@@ -1,5 +1,5 @@
--- What is proved, in Theorems and Drains: of the numbers of answers, and of every list of calls on a fresh cluster. Past the last, a lock reads as fresh
--- and a client as idle.
+-- What is proved, in Theorems, Drains, Listings and Counts: of the numbers of answers, and of every list of calls on a fresh cluster. Past the last, a lock
+-- reads as fresh and a client as idle.
 use Rattle.model.specs.Drain.{allowance, Quiescent, drainCalls, drain}
 use Rattle.model.specs.Trace.{isAccepted, grantsIn}
 use Rattle.model.specs.Refusals.{first}
@@ -124,13 +124,13 @@ pub record Enough (cs : List Call) (l : LockId) (s : LockState) : Type 0 where
   -- There is no agent at a free lock, and exactly one at any other.
   pub free : s .decider .owner ≡ Unowned → agentsIn s ≡ 0
   pub owned : (m : Mode) (k : MachineId) → s .decider .owner ≡ Owned m k → agentsIn s ≡ 1
-  -- Wherever it is, the decider's incarnation less its own, modulo 256, is the number of marked ACQUIREs on the wire; not only while the lock is shared, but
-  -- at all other times there is none.
+  -- Wherever it is, the decider's incarnation less its own, modulo 256, is the number of marked ACQUIREs on the wire. That is so in either mode; but while
+  -- the lock is not shared there is none.
   pub on-machine : (k : MachineId) → agentOn s k .present ≡ true → uncounted (s .decider) (agentOn s k .agent) ≡ marksIn s
   pub in-packet : (i : ℕ) → i < length (packets (s .wire)) → packetAt s i .carried .present ≡ true
       → uncounted (s .decider) (packetAt s i .carried .agent) ≡ marksIn s
   pub unshared : ownedShared (s .decider .owner) ≡ false → marksIn s ≡ 0
-  -- Two packets at most name a client, and one at most is a FREE, which names none: with sixteen clients, 33 in all.
+  -- Two packets at most name a client, and one at most is a FREE, which names none: with sixteen clients that makes 33.
   pub named : (c : ClientId) → count (names c) (packets (s .wire)) ≤ 2
   pub frees : count (λ (p : Packet). isFree (p .message)) (packets (s .wire)) ≤ 1
   pub wire : length (packets (s .wire)) ≤ wireCapacity
