@@ -118,7 +118,7 @@ fn counts(out: &mut dyn Write) -> io::Result<()> {
         writeln!(out, "{name} longest wire {}", tally.longest_wire)?;
         writeln!(out, "{name} incarnation wraps {}", tally.incarnation_wraps)?;
         writeln!(out, "{name} malformed states {}", tally.malformed_states)?;
-        write!(out, "{name} tested records {} ", tally.tested_records)?;
+        write!(out, "{name} tested states {} ", tally.tested_states)?;
         write!(out, "most marked {} ", tally.most_marked)?;
         writeln!(out, "most packets {}", tally.most_packets)?;
     }

@@ -115,7 +115,7 @@ impl Run {
         let outcome = drained.drain_with(call.lock, |number, state| {
             // A drain cannot be stopped from here; after a failure it goes on untested.
             if self.is_tested && tested.is_ok() {
-                let result = report.tally.test_record(state);
+                let result = report.tally.test_state(state);
                 tested = result.map_err(|broken| format!("drain step {number}: {broken}"));
             }
         });

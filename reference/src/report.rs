@@ -19,7 +19,7 @@ pub struct Tally {
     pub incarnation_wraps: u64,
     pub malformed_states: u64,
     /// How many states of locks were tested, and the most that was counted in one.
-    pub tested_records: u64,
+    pub tested_states: u64,
     pub most_marked: usize,
     pub most_packets: usize,
 }
@@ -46,8 +46,8 @@ impl Tally {
     }
 
     /// Tests the state of a lock that a fresh cluster came to, and notes its counts.
-    pub fn test_record(&mut self, state: &LockState) -> Result<(), String> {
-        self.tested_records += 1;
+    pub fn test_state(&mut self, state: &LockState) -> Result<(), String> {
+        self.tested_states += 1;
         self.most_marked = self.most_marked.max(Counts::of(state).marked);
         self.most_packets = self.most_packets.max(state.wire.len());
         state.check_counts()
@@ -61,7 +61,7 @@ impl Tally {
         state: Option<&LockState>,
     ) -> Result<(), String> {
         if let Some(state) = state {
-            self.test_record(state)?;
+            self.test_state(state)?;
         }
         check_answer(kind, outcome)
     }

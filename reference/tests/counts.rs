@@ -388,7 +388,7 @@ fn hand_made_run_is_not_tested() {
     let mut report = Report::new(&mut written, false);
     let run = Run::new("state", 4, HAND_MADE, Generator::new(4), cluster);
     run.finish(&mut report).expect("the run goes to its end");
-    assert_eq!(report.tally.tested_records, 0);
+    assert_eq!(report.tally.tested_states, 0);
 }
 
 fn tally_of(run: fn(u64, &mut Report) -> std::io::Result<()>, seeds: &[u64]) -> Tally {
@@ -402,19 +402,19 @@ fn tally_of(run: fn(u64, &mut Report) -> std::io::Result<()>, seeds: &[u64]) -> 
 
 /// Each call of a lock that exists, answered 1 otherwise, and each step of a drain.
 #[test]
-fn every_record_of_a_run_is_tested() {
+fn every_state_of_a_run_is_tested() {
     let tally = tally_of(random_run, &[1, 2, 3, 4, 5, 6, 7, 8, 9]);
     let calls = &tally.answers[1..=3];
     let on_a_lock = |answers: &[u64; 15]| answers.iter().sum::<u64>() - answers[1];
     let expected = calls.iter().map(on_a_lock).sum::<u64>() + tally.drain_steps;
-    assert_eq!(tally.tested_records, expected);
+    assert_eq!(tally.tested_states, expected);
     assert!(tally.most_packets >= tally.longest_wire);
 }
 
 #[test]
 fn transcripts_are_tested_and_states_are_not() {
     let tally = tally_of(random_transcript, &[4, 5, 6]);
-    assert!(tally.tested_records > 0);
+    assert!(tally.tested_states > 0);
     let tally = tally_of(random_state, &[1, 2, 3, 4, 5, 6, 7, 8, 9]);
-    assert_eq!(tally.tested_records, 0);
+    assert_eq!(tally.tested_states, 0);
 }

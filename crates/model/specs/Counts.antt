@@ -1,5 +1,5 @@
 -- What can be counted in a lock's state as it stands on the screen (document 02, "Thirty-three places are enough").
-use mathlib.Core.Bool.{Bool, true, false}
+use mathlib.Core.Bool.{Bool, false}
 use Prim.Native.Nat.{ℕ, _+_, _-_, _%_}
 use Rattle.model.specs.Lists.{count}
 use Rattle.model.specs.Names.{Decider, Agent, AgentSlot, Message, Free, Acquire, Grant, Release, Packet, LockState}

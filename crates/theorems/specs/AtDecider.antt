@@ -1,22 +1,20 @@
 -- Every step at the decider can be placed and keeps the invariant.
-use Rattle.theorems.specs.Names.{MachineId, ClientId, Mode, Exclusive, Shared, Owner, Unowned, Owned, Agent, Address, ToDecider, ToMachine, Message}
-use Rattle.theorems.specs.Names.{Free, Acquire, Grant, Release, Packet, Status, Idle, Waiting, Holding, LockState, _≡_, refl, sym, Bool, true, false}
-use Rattle.theorems.specs.Names.{_&&_, not, List, [], _∷_, ℕ, _+_, _≤_, _<_, _%_, arith, set-getD, ltb, eqb-true, eqb-false, eq-eqb, ltb-true, all}
-use Rattle.theorems.specs.Names.{machineOf, noHolders, unowned, waiters, noAgent, packets, Site, siteOf, withDecider, changed, lists, grantsFirst}
-use Rattle.theorems.specs.Names.{shares, current, rejects, passesOn, toOwner, decidesAcquire, decidesFree, decidesGrant, decides, and-left, and-right}
-use Rattle.theorems.specs.Names.{both, bool-cases, waiters-of, Decider, _∙_, false≢true, machines, clients, ownedShared, mayShare, slotIn, inParts}
-use Rattle.theorems.specs.Names.{plain}
+use Rattle.theorems.specs.Names.{MachineId, ClientId, Mode, Exclusive, Shared, Owner, Unowned, Owned, Agent, Address, ToDecider, ToMachine, Message, Free}
+use Rattle.theorems.specs.Names.{Acquire, Grant, Release, Packet, Status, Idle, Waiting, Holding, LockState, _≡_, refl, sym, Bool, true, false, _&&_, not}
+use Rattle.theorems.specs.Names.{List, [], _∷_, ℕ, _+_, _≤_, _<_, _%_, arith, set-getD, ltb, eqb-true, eqb-false, eq-eqb, ltb-true, all, machineOf}
+use Rattle.theorems.specs.Names.{noHolders, unowned, waiters, noAgent, packets, Site, siteOf, withDecider, changed, lists, grantsFirst, shares, current}
+use Rattle.theorems.specs.Names.{rejects, passesOn, toOwner, decidesAcquire, decidesFree, decidesGrant, decides, and-left, and-right, both, bool-cases}
+use Rattle.theorems.specs.Names.{waiters-of, Decider, _∙_, false≢true, machines, clients, ownedShared, mayShare, slotIn, inParts, plain}
 use Rattle.theorems.specs.Tally.{flag, tally, tally-any, tally-le, tally-none, tally-add, sumTo, sum-swap, sum-le, sum-one}
 use Rattle.theorems.specs.Weights.{statusAt, slotAt, weight, one, askM, queuedS, waitingP, markM, listedS, listedP, owedM, owedP, releaseM, releaseP}
-use Rattle.theorems.specs.Weights.{agentS, agentP, incarnationS, incarnationP, markAll, markP, rejectedP, vacantS, holdF, ownedF, clash, farM, farP}
-use Rattle.theorems.specs.Weights.{farF, ownedMode, misfitS, fitsAway, fitsFree, inRange, fits, fitsP, misfitP}
+use Rattle.theorems.specs.Weights.{agentS, agentP, incarnationS, incarnationP, markAll, markP, rejectedP, vacantS, holdF, ownedF, clash, farM, farP, farF}
+use Rattle.theorems.specs.Weights.{ownedMode, misfitS, fitsAway, fitsFree, inRange, fits, fitsP, misfitP}
 use Rattle.theorems.specs.Invariant.{Inv}
 use Rattle.theorems.specs.InvariantStep.{Keeps, Split, keep-step, told, untold, keep-calm, vacancy-by, Still, still, keep-resent, framed}
 use Rattle.theorems.specs.Facts.{fit, Zero, absent, nobody, came-fits, near-owner, near-home, named-of, Plain, Request, acquire-of, release-of}
 use Rattle.theorems.specs.Facts.{plain-request, Away, away-of, away-fits, absent-of, silent-unshared, silent-equal, free-inc, same-mode, no-others}
 use Rattle.theorems.specs.Facts.{differ}
-use Rattle.theorems.specs.Sent.{Good, good-by, may-share, plain-any, request-any, no-marked, no-release, no-free, no-offer, no-freed, impossible}
-use Rattle.theorems.specs.Sent.{keep-on}
+use Rattle.theorems.specs.Sent.{Good, good-by, may-share, plain-any, request-any, no-marked, no-release, no-free, no-offer, no-freed, impossible, keep-on}
 
 -- ---- the packets that a new owner would not fit
 unfoldable pub loudM : Message → ℕ

@@ -1,13 +1,14 @@
 -- Every acquire of a client that is idle and named by no packet, and every release of one that holds, can be placed and keeps the
 -- invariant.
-use Rattle.theorems.specs.Names.{MachineId, ClientId, Mode, Exclusive, Shared, Owner, Unowned, Owned, Agent, ToDecider, Acquire, Release, Packet, Idle}
-use Rattle.theorems.specs.Names.{Waiting, Holding, LockState, _≡_, refl, ap, Bool, true, false, List, [], _∷_, ℕ, _+_, _≤_, _<_, arith, bool-cases, eqb}
-use Rattle.theorems.specs.Names.{eqb-true, eq-eqb, lt-ltb, pick, any, machineOf, someAgent, agentOn, listed, plain, waiters, noAgent, packets, Verdict}
-use Rattle.theorems.specs.Names.{does, Site, siteOf, withSlot, withStatus, joining, queuing, withRoom, mayJoin, lists, clientAsks, clientAcquires}
-use Rattle.theorems.specs.Names.{leaves, clientReleases, names, or-left, or-right, machines, clients, Status, _*_}
+use Rattle.theorems.specs.Names.{MachineId, ClientId, Mode, Exclusive, Shared, Owner, Unowned, Owned, Agent, ToDecider, Acquire}
+use Rattle.theorems.specs.Names.{Release, Packet, Idle, Waiting, Holding, LockState, _≡_, refl, ap, Bool, true, false, List, [], _∷_, ℕ, _+_, _≤_, _<_}
+use Rattle.theorems.specs.Names.{arith, bool-cases, eqb, eqb-true, eq-eqb, lt-ltb, pick, any, machineOf, someAgent, agentOn, listed, plain, waiters}
+use Rattle.theorems.specs.Names.{noAgent, packets, Verdict, does, Site, siteOf, withSlot, withStatus, joining, queuing, withRoom, mayJoin, lists}
+use Rattle.theorems.specs.Names.{clientAsks, clientAcquires, leaves, clientReleases, names, or-left, or-right, machines, clients, Status}
+use Rattle.theorems.specs.Names.{_*_}
 use Rattle.theorems.specs.Tally.{flag, tally, tally-le}
-use Rattle.theorems.specs.Weights.{statusAt, slotAt, weight, one, hit, hitW, askM, queuedS, waitingP, markM, listedS, listedP, owedM, releaseM}
-use Rattle.theorems.specs.Weights.{releaseP, agentS, incarnationS, markAll, vacantS, waitF, holdF, idleF, clash, misfitS, fitsHome, fits, misfitP}
+use Rattle.theorems.specs.Weights.{statusAt, slotAt, weight, one, hit, hitW, askM, queuedS, waitingP, markM, listedS, listedP, owedM, releaseM, releaseP}
+use Rattle.theorems.specs.Weights.{agentS, incarnationS, markAll, vacantS, waitF, holdF, idleF, clash, misfitS, fitsHome, fits, misfitP}
 use Rattle.theorems.specs.Invariant.{Inv}
 use Rattle.theorems.specs.InvariantStep.{Keeps, Split, told, keep, vacancy-by, framed}
 use Rattle.theorems.specs.Facts.{Home, slot-home, status-move, modes-told, in-slot, clash-none, namesM, names-are, owes-list, joins-fits, joins-listed}

@@ -20,38 +20,38 @@ use Rattle.model.specs.Counts.{agentsIn, marksIn, uncounted}
 use Rattle.theorems.specs.Scenarios.{machine, on, acquires0, releases0, delivers0, with0, d9-start}
 
 -- where the agent is
-pub data Place : Type 0 where
-  on-machine : ℕ → Place
-  in-packet : ℕ → Place
+pub data Where : Type 0 where
+  on-machine : ℕ → Where
+  in-packet : ℕ → Where
 
-abbrev pub agentAt : Place → LockState → Agent
+abbrev pub agentAt : Where → LockState → Agent
 agentAt (on-machine k) s = agentOn s (machine k) .agent
 agentAt (in-packet i) s = packetAt s i .carried .agent
 
 -- what is counted: packets, agents, marked ACQUIREs, and the decider's incarnation less the agent's
-abbrev pub counted : LockState → Place → List ℕ
+abbrev pub counted : LockState → Where → List ℕ
 counted s here = length (packets (s .wire)) ∷ agentsIn s ∷ marksIn s ∷ uncounted (s .decider) (agentAt here s) ∷ []
 
 -- from this state of lock 0: calls, where the agent is then, and what is counted
 pub data Screen : Type 0 where
-  shows : LockState → List Call → Place → List ℕ → Screen
+  shows : LockState → List Call → Where → List ℕ → Screen
 
 abbrev pub Right : Screen → Type 0
 Right (shows s cs here figures) = counted (lockIn (run cs (with0 s)) (on 0)) here ≡ figures
 
 -- ---- the runs
-abbrev asks : List Call
-asks = acquires0 0 0 3 ∷ delivers0 0 ∷ []
+abbrev to-D1 : List Call
+to-D1 = acquires0 0 0 3 ∷ delivers0 0 ∷ []
 
 -- 0/0 holds, and the decider grants 1/0
-abbrev shares : List Call
-shares = asks ++ (delivers0 0 ∷ acquires0 1 0 3 ∷ delivers0 0 ∷ [])
+abbrev to-D2 : List Call
+to-D2 = to-D1 ++ (delivers0 0 ∷ acquires0 1 0 3 ∷ delivers0 0 ∷ [])
 
-abbrev leaves : List Call
-leaves = shares ++ (releases0 0 0 ∷ [])
+abbrev to-D3 : List Call
+to-D3 = to-D2 ++ (releases0 0 0 ∷ [])
 
-abbrev rejected : List Call
-rejected = leaves ++ (delivers0 2 ∷ [])
+abbrev to-D3-rejected : List Call
+to-D3-rejected = to-D3 ++ (delivers0 2 ∷ [])
 
 -- D13's client c: its ACQUIRE stands behind the FREE and two packets of each client before it
 abbrev visit : ℕ → List Call
@@ -62,24 +62,24 @@ visits zero = []
 visits (suc n) = visits n ++ visit n
 
 -- 0/1 and 0/2 wait, shared, for the exclusive 0/0: 0/1 gets the agent, and the agent grants 0/2
-abbrev admits : List Call
-admits = acquires0 0 0 2 ∷ delivers0 0 ∷ delivers0 0 ∷ acquires0 0 1 3 ∷ acquires0 0 2 3 ∷ releases0 0 0 ∷ delivers0 0 ∷ delivers0 0 ∷ []
+abbrev to-grant : List Call
+to-grant = acquires0 0 0 2 ∷ delivers0 0 ∷ delivers0 0 ∷ acquires0 0 1 3 ∷ acquires0 0 2 3 ∷ releases0 0 0 ∷ delivers0 0 ∷ delivers0 0 ∷ []
 
 pub data Name : Type 0 where
   D1 D2 D3 D3-rejected D5 D9 D13 agent-grants : Name
 
 abbrev pub screens : Name → Screen
-screens D1 = shows freshLock asks (in-packet 0) (1 ∷ 1 ∷ 0 ∷ 0 ∷ [])
-screens D2 = shows freshLock shares (on-machine 0) (2 ∷ 1 ∷ 1 ∷ 1 ∷ [])
-screens D3 = shows freshLock leaves (in-packet 2) (3 ∷ 1 ∷ 1 ∷ 1 ∷ [])
-screens D3-rejected = shows freshLock rejected (in-packet 2) (3 ∷ 1 ∷ 1 ∷ 1 ∷ [])
-screens D5 = shows freshLock (rejected ++ (delivers0 2 ∷ delivers0 1 ∷ [])) (on-machine 0) (1 ∷ 1 ∷ 0 ∷ 0 ∷ [])
+screens D1 = shows freshLock to-D1 (in-packet 0) (1 ∷ 1 ∷ 0 ∷ 0 ∷ [])
+screens D2 = shows freshLock to-D2 (on-machine 0) (2 ∷ 1 ∷ 1 ∷ 1 ∷ [])
+screens D3 = shows freshLock to-D3 (in-packet 2) (3 ∷ 1 ∷ 1 ∷ 1 ∷ [])
+screens D3-rejected = shows freshLock to-D3-rejected (in-packet 2) (3 ∷ 1 ∷ 1 ∷ 1 ∷ [])
+screens D5 = shows freshLock (to-D3-rejected ++ (delivers0 2 ∷ delivers0 1 ∷ [])) (on-machine 0) (1 ∷ 1 ∷ 0 ∷ 0 ∷ [])
 -- 0 less 255, in eight bits
 screens D9 = shows d9-start (acquires0 1 0 3 ∷ delivers0 0 ∷ []) (on-machine 0) (2 ∷ 1 ∷ 1 ∷ 1 ∷ [])
 -- the wire that fills all places
-screens D13 = shows freshLock (asks ++ (delivers0 0 ∷ releases0 0 0 ∷ visits clients)) (in-packet 0) (33 ∷ 1 ∷ 16 ∷ 16 ∷ [])
+screens D13 = shows freshLock (to-D1 ++ (delivers0 0 ∷ releases0 0 0 ∷ visits clients)) (in-packet 0) (33 ∷ 1 ∷ 16 ∷ 16 ∷ [])
 -- the decider sends on the GRANT of the agent, and does not count it
-screens agent-grants = shows freshLock (admits ++ (delivers0 0 ∷ [])) (on-machine 0) (1 ∷ 1 ∷ 0 ∷ 0 ∷ [])
+screens agent-grants = shows freshLock (to-grant ++ (delivers0 0 ∷ [])) (on-machine 0) (1 ∷ 1 ∷ 0 ∷ 0 ∷ [])
 
 pub figures-hold : (n : Name) → Right (screens n)
 unfolding run perform acquire release deliver unless settled first acquireStep releaseStep deliverStep takes finish delivers

@@ -36,4 +36,5 @@ pub mod Distance
 pub mod RankFalls
 pub mod Quiescence
 pub mod Drains
+-- ---- the counts that can be made on the screen
 pub mod Counts

@@ -1,4 +1,4 @@
-//! Short ways to drive lock 0 in tests, and the states of the drills (document 01, 'Drills').
+//! Short ways to drive lock 0 in tests, and the states of the scenarios (document 01, 'Drills').
 #![allow(dead_code)]
 
 use reference::model::{
