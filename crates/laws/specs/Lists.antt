@@ -1,12 +1,12 @@
 -- Lists, lists in arrays, and tests over lists.
 use mathlib.Core.Path.{_≡_, refl, ap}
 use mathlib.Core.Bool.{Bool, true, false}
-use mathlib.Core.List.{List, [], _∷_, _++_}
+use mathlib.Core.List.{List, [], _∷_, _++_, map}
 use Prim.Native.Nat.{ℕ, zero, suc, _+_, _-_, _<_, _≤_}
 use native.Mathlib.Omega.{arith}
 use lib.ListN.{length, take, drop, getD, set, replicate}
 use lib.Seq.{take-append-seam}
-use Rattle.model.specs.Lists.{any, all, padded, removed}
+use Rattle.model.specs.Lists.{any, all, isAt, padded, removed}
 use Rattle.laws.specs.Tests.{and-left, and-right, both, or-left, or-right, neither}
 
 module _ {A : Type 0} where
@@ -110,3 +110,10 @@ module _ {A : Type 0} where
 
   pub more-room : (n : ℕ) (xs : List A) (z : A) → length xs < n → replicate (n - length xs) z ≡ z ∷ replicate (n - suc (length xs)) z
   more-room n xs z h = let e : n - length xs ≡ suc (n - suc (length xs)) = omega arith in rw e
+
+-- a test of an element, through what is made of each
+pub at-map : {A B : Type 0} (p : B → Bool) (f : A → B) (i : ℕ) (xs : List A) → isAt (λ (x : A). p (f x)) xs i ≡ isAt p (map f xs) i
+unfolding isAt
+at-map p f i [] = refl
+at-map p f zero (x ∷ xs) = refl
+at-map p f (suc i) (x ∷ xs) = at-map p f i xs

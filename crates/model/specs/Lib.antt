@@ -24,3 +24,5 @@ pub mod Transcripts
 pub mod Listing
 -- document 02, "Thirty-three places are enough"
 pub mod Counts
+-- "Where is my request"
+pub mod Reasons

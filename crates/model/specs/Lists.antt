@@ -22,6 +22,17 @@ module _ {A : Type 0} where
   count p [] = 0
   count p (x ∷ xs) = pick (p x) 1 0 + count p xs
 
+  -- the element at i is there and passes the test
+  unfoldable pub isAt : (A → Bool) → List A → ℕ → Bool
+  isAt p [] i = false
+  isAt p (x ∷ xs) zero = p x
+  isAt p (x ∷ xs) (suc i) = isAt p xs i
+
+  -- the indices of its elements, counted from n on
+  unfoldable pub indices : ℕ → List A → List ℕ
+  indices n [] = []
+  indices n (x ∷ xs) = n ∷ indices (suc n) xs
+
   -- an array of n: the list, and blanks to the end
   unfoldable pub padded : ℕ → A → List A → List A
   padded n z xs = xs ++ replicate (n - length xs) z

@@ -3,7 +3,7 @@ use mathlib.Core.Bool.{Bool, true, false}
 use mathlib.Core.List.{List, [], _∷_}
 use Prim.Native.Nat.{ℕ}
 use Rattle.model.specs.Names.{Refusal, Malformed, LockRange, MachineRange, TaskRange, ModeRange, NotIdle, StillNamed, NotHolding, IndexRange, CannotPlace}
-use Rattle.model.specs.Names.{WireFull, BadRecord, TranscriptLength, NotQuiescent, Answer, Accepted, Refused}
+use Rattle.model.specs.Names.{WireFull, BadRecord, TranscriptLength, NotQuiescent, NotWaiting, Answer, Accepted, Refused}
 
 abbrev pub refusalNumber : Refusal → ℕ
 -- the cluster is not well formed
@@ -34,6 +34,8 @@ refusalNumber BadRecord = 12
 refusalNumber TranscriptLength = 13
 -- the drain has no step left, and the lock is not quiescent
 refusalNumber NotQuiescent = 14
+-- the client does not wait for this lock, or no reason for it is found
+refusalNumber NotWaiting = 15
 
 -- 0 is the number of Accepted alone.
 abbrev pub number : Answer → ℕ

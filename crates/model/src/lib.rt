@@ -2,6 +2,7 @@
 // the rest is `wellFormed` in specs/WellFormed.antt.
 ghost use mathlib.Core.Path.{_≡_};
 ghost use Rattle.model.specs.Refusals.{refusalNumber, number};
+ghost use Rattle.model.specs.Reasons.{reasonNumber};
 
 // The sizes of the cluster: specs/States.antt has the same numbers under the same names.
 pub const LOCKS: usize = 8;
@@ -169,10 +170,27 @@ pub enum Refusal {
     BadRecord,
     TranscriptLength,
     NotQuiescent,
+    NotWaiting,
 }
 
 pub enum Answer {
     Accepted,
+    Refused(Refusal),
+}
+
+// Why a client waits: its ACQUIRE, its GRANT or its rejected GRANT is on the wire, at an index; or it stands in the queue of the agent on a machine, or of
+// the one carried by the packet at an index, with so many ahead.
+pub enum Reason {
+    Requested { index: u8 },
+    Granted { index: u8 },
+    Rejected { index: u8 },
+    Queued { machine: MachineId, ahead: u8 },
+    Carried { index: u8, ahead: u8 },
+}
+
+// What the question for the reason is answered.
+pub enum ReasonAnswer {
+    Because(Reason),
     Refused(Refusal),
 }
 
@@ -229,6 +247,7 @@ impl Refusal {
             Refusal::BadRecord => 12,
             Refusal::TranscriptLength => 13,
             Refusal::NotQuiescent => 14,
+            Refusal::NotWaiting => 15,
         }
     }
 }
@@ -241,6 +260,18 @@ impl Answer {
         match self {
             Answer::Accepted => 0,
             Answer::Refused(r) => r.number(),
+        }
+    }
+}
+
+impl ReasonAnswer {
+    // Document 02's number: 0 for a reason.
+    pub fn number(self) -> u8
+        ensures { λ r. ⌜ r ≡ reasonNumber self ⌝ }
+    {
+        match self {
+            ReasonAnswer::Because(_) => 0,
+            ReasonAnswer::Refused(r) => r.number(),
         }
     }
 }

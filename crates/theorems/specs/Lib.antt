@@ -4,6 +4,7 @@ pub mod Names
 -- ---- the definitions at work: scenarios, the bounds of well-formedness, what the contracts rule out
 pub mod Scenarios
 pub mod Figures
+pub mod Questions
 pub mod Bounds
 pub mod RuledOut
 -- ---- the invariant
@@ -38,3 +39,6 @@ pub mod Quiescence
 pub mod Drains
 -- ---- the counts that can be made on the screen
 pub mod Counts
+-- ---- why a client waits
+pub mod ReasonWeights
+pub mod Reasons

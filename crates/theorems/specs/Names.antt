@@ -10,8 +10,10 @@ pub use Rattle.model.specs.declared.{Cluster.Cluster}
 pub use Rattle.model.specs.declared.{Call.Call, Call.the-variants.{Acquire as AcquireCall, Release as ReleaseCall, Deliver as DeliverCall}}
 pub use Rattle.model.specs.declared.{Refusal.Refusal}
 pub use Rattle.model.specs.declared.{Refusal.the-variants.{Malformed, LockRange, MachineRange, TaskRange, ModeRange, NotIdle, StillNamed, NotHolding}}
-pub use Rattle.model.specs.declared.{Refusal.the-variants.{IndexRange, CannotPlace, WireFull, BadRecord, TranscriptLength, NotQuiescent}, Answer.Answer}
-pub use Rattle.model.specs.declared.{Answer.the-variants.{Accepted, Refused}}
+pub use Rattle.model.specs.declared.{Refusal.the-variants.{IndexRange, CannotPlace, WireFull, BadRecord, TranscriptLength, NotQuiescent, NotWaiting}}
+pub use Rattle.model.specs.declared.{Answer.Answer, Answer.the-variants.{Accepted, Refused}}
+pub use Rattle.model.specs.declared.{Reason.Reason, Reason.the-variants.{Requested, Granted, Rejected, Queued, Carried}}
+pub use Rattle.model.specs.declared.{ReasonAnswer.ReasonAnswer, ReasonAnswer.the-variants.{Because, Refused as NoReason}}
 pub use Rattle.model.specs.declared.{Stepped.Stepped, Outcome.Outcome, Drained.Drained}
 -- ---- the library
 pub use mathlib.Core.Path.{_≡_, refl, sym, ap, _∙_}
@@ -26,7 +28,7 @@ pub use lib.Dec.{eqb, leb, ltb}
 pub use borrow.Author.Tests.{eqb-true, eqb-false, eq-eqb, ne-eqb, ltb-true, ltb-false, lt-ltb, leb-true, leb-false, le-leb, lt-leb}
 -- ---- the model and its laws
 pub use Rattle.model.specs.Lists.{pick, any, all}
-unfoldable pub use Rattle.model.specs.Lists.{count, removed}
+unfoldable pub use Rattle.model.specs.Lists.{count, isAt, indices, removed}
 pub use Rattle.model.specs.States.{locks, machines, tasks, clients, queueCapacity, wireCapacity, clientOf, machineOf, modeOf, isShared, noHolders, newAgent}
 pub use Rattle.model.specs.States.{someAgent, agentOn, listed, idle, statusOf, plain, carrying, resent, unowned, lockIn}
 unfoldable pub use Rattle.model.specs.States.{queueOf, waiters, noAgent, blankPacket, wireOf, packets, freshLock, fresh}
@@ -48,6 +50,8 @@ pub use Rattle.model.specs.Counts.{agentsIn, isMarked, marksIn, uncounted}
 pub use Rattle.model.specs.Trace.{View, unseen, isAccepted, toMachine, isGrantFor, showsGrant, afterAcquire}
 pub use Rattle.model.specs.Trace.{afterGrant, afterRelease, phaseAfter}
 unfoldable pub use Rattle.model.specs.Trace.{sees, watch}
+pub use Rattle.model.specs.Reasons.{isRequestOf, requests, grants, grantRejected, queuedIn, isWaiting, reasonTests, reasonNumber, reasonValues}
+unfoldable pub use Rattle.model.specs.Reasons.{isTrue, inQueues, reasonsIn, firstTrue, reasonIn, reasonUnless, reason}
 pub use Rattle.laws.specs.Tests.{and-left, and-right, both, or-left, or-right, bool-cases}
 pub use Rattle.laws.specs.Shapes.{packets-of, waiters-of}
 pub use Rattle.laws.specs.Formed.{slotIn, inParts}

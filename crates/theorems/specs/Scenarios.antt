@@ -44,15 +44,15 @@ delivers0 i = DeliverCall (on 0) i
 abbrev pub lock8 : Call
 lock8 = AcquireCall (on 8) (machine 0) (record { 0 = 0 }) 1
 
-abbrev owned : Mode → ℕ → ℕ → Decider
+abbrev pub owned : Mode → ℕ → ℕ → Decider
 owned m k n = record { owner = Owned m (machine k); incarnation = n }
 
 -- the agent with this queue
-abbrev queue : List Waiter → Agent → Agent
+abbrev pub queue : List Waiter → Agent → Agent
 queue ws a = record { mode = a .mode; holders = a .holders; queue = queueOf ws; incarnation = a .incarnation }
 
 -- an agent with these holders, no queue and this incarnation
-abbrev agent : Mode → List ℕ → ℕ → Agent
+abbrev pub agent : Mode → List ℕ → ℕ → Agent
 agent m cs n = record { mode = m; holders = list cs; queue = queueOf []; incarnation = n }
   where
     list : List ℕ → List Bool
@@ -60,10 +60,10 @@ agent m cs n = record { mode = m; holders = list cs; queue = queueOf []; incarna
     list (c ∷ cs) = set (list cs) c true
 
 -- a rejected packet to the machine
-abbrev returning : Message → ℕ → Agent → Packet
+abbrev pub returning : Message → ℕ → Agent → Packet
 returning m k a = resent (carrying m ToDecider a) (ToMachine (machine k)) true
 
-abbrev nowhere : List AgentSlot
+abbrev pub nowhere : List AgentSlot
 nowhere = replicate machines noAgent
 
 abbrev on0 : Agent → List AgentSlot
@@ -72,10 +72,10 @@ on0 a = set nowhere 0 (someAgent a)
 abbrev status : ℕ → Status → List ClientState → List ClientState
 status c st cs = set cs c (record { status = st })
 
-abbrev others : List ClientState
+abbrev pub others : List ClientState
 others = replicate clients idle
 
-abbrev lock : Decider → List AgentSlot → List ClientState → List Packet → LockState
+abbrev pub lock : Decider → List AgentSlot → List ClientState → List Packet → LockState
 lock d slots cs ps = record { decider = d; agents = slots; clients = cs; wire = wireOf ps }
 
 -- lock 0 in this state, the others fresh
@@ -106,20 +106,20 @@ abbrev holding0 : List ClientState
 holding0 = status 0 (Holding Shared) others
 
 -- and there: 0/0 holds
-abbrev d1-held : LockState
+abbrev pub d1-held : LockState
 d1-held = lock (owned Shared 0 0) (on0 firstAgent) holding0 []
 
-abbrev grantTo1 : Packet
+abbrev pub grantTo1 : Packet
 grantTo1 = plain (Grant (client 4) Shared) (ToMachine (machine 1))
 
-abbrev markedTo0 : Packet
+abbrev pub markedTo0 : Packet
 markedTo0 = plain (Acquire (client 4) Shared true) (ToMachine (machine 0))
 
-abbrev waiting4 : Mode → List ClientState → List ClientState
+abbrev pub waiting4 : Mode → List ClientState → List ClientState
 waiting4 m = status 4 (Waiting m)
 
 -- D2: 1/0 may share the lock: its GRANT and the agent's copy of its request are under way
-abbrev d2 : LockState
+abbrev pub d2 : LockState
 d2 = lock (owned Shared 0 1) (on0 firstAgent) (waiting4 Shared holding0) (grantTo1 ∷ markedTo0 ∷ [])
 
 -- D3: 0/0 has released, and the agent leaves with the old incarnation
@@ -139,14 +139,14 @@ abbrev d5 : LockState
 d5 = lock (owned Shared 0 1) (on0 (agent Shared (4 ∷ []) 1)) (waiting4 Shared others) (grantTo1 ∷ [])
 
 -- D6: 1/0's release came to the agent before the mark did, and was sent back
-abbrev d6 : LockState
+abbrev pub d6 : LockState
 d6 = lock (owned Shared 0 1) (on0 firstAgent) holding0 (markedTo0 ∷ plain (Release (client 4)) ToDecider ∷ [])
 
-abbrev waits : ℕ → Waiter
+abbrev pub waits : ℕ → Waiter
 waits c = record { client = client c; mode = Exclusive }
 
 -- D8: an exclusive holder, and another client in its agent's queue
-abbrev d8-queued : LockState
+abbrev pub d8-queued : LockState
 d8-queued = lock (owned Exclusive 0 0) (on0 (queue (waits 4 ∷ []) (agent Exclusive (0 ∷ []) 0))) (waiting4 Exclusive (status 0 (Holding Exclusive) others)) []
 
 -- and the holder has released: the agent goes to the other
@@ -175,7 +175,7 @@ abbrev f-local : LockState
 f-local = lock (owned Shared 0 0) (on0 (agent Shared (1 ∷ 0 ∷ []) 0)) (status 1 (Holding Shared) holding0) []
 
 -- an unmarked shared ACQUIRE at a shared agent
-abbrev f-unmarked : LockState
+abbrev pub f-unmarked : LockState
 f-unmarked = lock (owned Shared 0 0) (on0 firstAgent) (waiting4 Shared holding0) (plain (Acquire (client 4) Shared false) (ToMachine (machine 0)) ∷ [])
 
 -- adds a holder and sends a GRANT for it
@@ -186,11 +186,11 @@ abbrev asking : List ClientState
 asking = status 8 (Waiting Exclusive) (waiting4 Exclusive others)
 
 -- a rejected GRANT for 1/0, behind which 2/0 waits
-abbrev f-rejected : LockState
+abbrev pub f-rejected : LockState
 f-rejected = lock (owned Shared 0 1) nowhere asking (returning (Grant (client 4) Exclusive) 0 (queue (waits 8 ∷ []) (agent Shared [] 0)) ∷ [])
 
 -- has its waiter back at the queue's front
-abbrev f-requeued : LockState
+abbrev pub f-requeued : LockState
 f-requeued = lock (owned Shared 0 1) (on0 (queue (waits 4 ∷ waits 8 ∷ []) (agent Shared [] 0))) asking []
 
 -- ---- the list, and the theorem

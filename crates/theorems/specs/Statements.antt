@@ -1,5 +1,5 @@
--- What is proved, in Theorems, Drains, Listings and Counts: of the numbers of answers, and of every list of calls on a fresh cluster. Past the last, a lock
--- reads as fresh and a client as idle.
+-- What is proved, in Theorems, Drains, Listings, Counts and Reasons: of the numbers of answers, and of every list of calls on a fresh cluster. Past the last,
+-- a lock reads as fresh and a client as idle.
 use Rattle.model.specs.Drain.{allowance, Quiescent, drainCalls, drain}
 use Rattle.model.specs.Trace.{isAccepted, grantsIn}
 use Rattle.model.specs.Refusals.{first}
@@ -10,7 +10,8 @@ use Rattle.theorems.specs.Names.{LockId, ClientId, Mode, Exclusive, Stat
 use Rattle.theorems.specs.Names.{true, List, [], _∷_, ℕ, _≤_, _<_, length, eqb, leb, all, statusOf, lockIn, packets, freshLock, fresh, wellFormed}
 use Rattle.theorems.specs.Names.{current, packetAt, run, answersOf, perform, lockOf, number, phaseAfter, _+_, _-_, _*_, locks, clients, wireCapacity}
 use Rattle.theorems.specs.Names.{after, _++_, map, Packet, MachineId, Unowned, Owned, LockState, Bool, false, not, _||_, count, agentOn, ownedShared}
-use Rattle.theorems.specs.Names.{names, isFree, agentsIn, marksIn, uncounted}
+use Rattle.theorems.specs.Names.{names, isFree, agentsIn, marksIn, uncounted, TaskId, Reason, ReasonAnswer, Because, machines, tasks, clientOf}
+use Rattle.theorems.specs.Names.{isTrue, reasonIn, reason, reasonNumber, reasonValues}
 
 -- Different answers have different numbers, and 0 is the number of the accepted alone.
 pub record Numbered : Type 0 where
@@ -21,7 +22,7 @@ pub record Numbered : Type 0 where
 abbrev pub StaysFormed : List Call → Type 0
 StaysFormed cs = wellFormed (after cs) ≡ true
 
--- No call of the list gets a number above 8: refusals 9 to 14 do not occur.
+-- No call of the list gets a number above 8: refusals from 9 on do not occur.
 abbrev pub NeverRefusedInside : List Call → Type 0
 NeverRefusedInside cs = all (λ (a : Answer). leb (number a) 8) (answersOf cs fresh) ≡ true
 
@@ -146,3 +147,29 @@ pub record IncarnationSound (cs : List Call) : Type 0 where
   pub bounded : (l : LockId) → marksIn (lockIn (after cs) l) ≤ clients
   pub sound : (l : LockId) (i : ℕ) → i < length (packets (lockIn (after cs) l .wire)) → packetAt (lockIn (after cs) l) i .carried .present ≡ true
       → current (lockIn (after cs) l .decider) (packetAt (lockIn (after cs) l) i) ≡ eqb (marksIn (lockIn (after cs) l)) 0
+
+-- Request 2 of document 02: where is my request. The answers to that question differ in number or values, and 0 is the number of a reason alone.
+pub record ReasonsNumbered : Type 0 where
+  pub apart : (a b : ReasonAnswer) → reasonNumber a ≡ reasonNumber b → reasonValues a ≡ reasonValues b → a ≡ b
+  pub gives : (a : ReasonAnswer) → reasonNumber a ≡ 0 → (r : Reason) × (a ≡ Because r)
+
+-- In any state, made by hand or not: what is given is true, and where a reason is true of a client that waits, one is given.
+pub record Searches (s : LockState) (c : ClientId) : Type 0 where
+  pub sound : (r : Reason) → reasonIn s c ≡ Because r → isTrue s c r ≡ true
+  pub complete : (m : Mode) (r : Reason) → statusOf s c ≡ Waiting m → isTrue s c r ≡ true → reasonNumber (reasonIn s c) ≡ 0
+
+-- One reason is true of the client, with its index or machine and the number ahead, no other is, and it is the answer, with number 0.
+pub record Explained (s : LockState) (c : ClientId) (a : ReasonAnswer) : Type 0 where
+  pub why : Reason
+  pub holds : isTrue s c why ≡ true
+  pub only : (r : Reason) → isTrue s c r ≡ true → r ≡ why
+  pub given : a ≡ Because why
+  pub answered : reasonNumber a ≡ 0
+
+-- After a list that is so of every client that waits by the trace, on any lock; any other client is answered 15.
+pub record WhereIs (cs : List Call) (l : LockId) (k : MachineId) (t : TaskId) : Type 0 where
+  pub waiting : (m : Mode) → phaseAfter l (clientOf k t) cs ≡ Waiting m → Explained (lockIn (after cs) l) (clientOf k t) (reason (after cs) l k t)
+  pub others : ((m : Mode) → phaseAfter l (clientOf k t) cs ≡ Waiting m → ⊥) → reasonNumber (reason (after cs) l k t) ≡ 15
+
+abbrev pub WhereIsMyRequest : List Call → Type 0
+WhereIsMyRequest cs = (l : LockId) (k : MachineId) (t : TaskId) → l .0 < locks → k .0 < machines → t .0 < tasks → WhereIs cs l k t

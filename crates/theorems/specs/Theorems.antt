@@ -3,7 +3,7 @@ use Rattle.laws.specs.CallSteps.{perform-elsewhere}
 use Rattle.theorems.specs.Names.{LockState, Cluster, Call, Answer, _≡_, refl, sym, ap, _∙_, true, List, [], _∷_, ℕ, leb, le-leb, all, statusOf, lockIn}
 use Rattle.theorems.specs.Names.{fresh, answersOf, after, perform, number, unseen, both, map, getD, Accepted, Refused, Malformed, LockRange}
 use Rattle.theorems.specs.Names.{MachineRange, TaskRange, ModeRange, NotIdle, StillNamed, NotHolding, IndexRange, CannotPlace, WireFull, BadRecord}
-use Rattle.theorems.specs.Names.{TranscriptLength, NotQuiescent}
+use Rattle.theorems.specs.Names.{TranscriptLength, NotQuiescent, NotWaiting}
 use Rattle.theorems.specs.Facts.{wire-bound}
 use Rattle.theorems.specs.Fresh.{all-idle}
 use Rattle.theorems.specs.Exclusion.{one-exclusive}
@@ -18,7 +18,7 @@ table =
     Accepted
     ∷ map Refused
     (LockRange ∷ MachineRange ∷ TaskRange ∷ ModeRange ∷ NotIdle ∷ StillNamed ∷ NotHolding ∷ IndexRange ∷ CannotPlace ∷ WireFull ∷ Malformed ∷ BadRecord
-    ∷ TranscriptLength ∷ NotQuiescent ∷ [])
+    ∷ TranscriptLength ∷ NotQuiescent ∷ NotWaiting ∷ [])
 
 stands : (a : Answer) → getD table (number a) Accepted ≡ a
 stands Accepted = refl
@@ -36,6 +36,7 @@ stands (Refused WireFull) = refl
 stands (Refused BadRecord) = refl
 stands (Refused TranscriptLength) = refl
 stands (Refused NotQuiescent) = refl
+stands (Refused NotWaiting) = refl
 
 numbers-apart : (a b : Answer) → number a ≡ number b → a ≡ b
 numbers-apart a b e = sym (stands a) ∙ ap (λ (n : ℕ). getD table n Accepted) e ∙ stands b
