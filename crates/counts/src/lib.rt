@@ -1,6 +1,6 @@
 // The two counts of any lock state, made by hand or not: its agents, and the marked ACQUIREs on its wire. docs/why-33.md says what they are for.
 ghost use mathlib.Core.Path.{_≡_};
-ghost use Prim.Native.Nat.{min, _≤_};
+ghost use Prim.Native.Nat.{_≤_};
 ghost use lib.ListN.{take};
 ghost use Rattle.model.specs.Lists.{count};
 ghost use Rattle.model.specs.States.{machines, wireCapacity};
@@ -12,14 +12,7 @@ use model::MACHINES;
 use model::Message;
 use model::Packet;
 use model::WIRE_CAPACITY;
-
-// The packets that count. A wire made by hand may claim more than it has slots.
-fn used(n: u8) -> usize
-    ensures { λ r. ⌜ r ≡ min n wireCapacity ⌝ }
-{
-    let n = n as usize;
-    if n < WIRE_CAPACITY { n } else { WIRE_CAPACITY }
-}
+use parts::used::used;
 
 fn is_marked(m: Message) -> bool
     ensures { λ r. ⌜ r ≡ isMarked m ⌝ }
@@ -67,7 +60,7 @@ fn is_counted(p: Packet, marks: bool) -> bool
 fn on_wire(a: [Packet; WIRE_CAPACITY], len: u8, marks: bool) -> u8
     ensures { λ r. ⌜ (r ≡ count (isCounted marks) (take len a)) × (r ≤ wireCapacity) ⌝ }
 {
-    let m = used(len);
+    let m = used(len, WIRE_CAPACITY);
     let mut n: u8 = 0;
     let mut j: usize = 0;
     while j < m {

@@ -1,10 +1,11 @@
 // The digest of docs/random-runs.md: 'Numbers and digest' and 'The bytes of a cluster'. Each function goes on from h over the bytes of its part.
 ghost use mathlib.Core.Path.{_≡_};
 ghost use mathlib.Core.List.{[], _∷_};
-ghost use Prim.Native.Nat.{min};
 ghost use lib.ListN.{take};
 ghost use Rattle.model.specs.declared.Status.the-variants.{Holding};
+ghost use Rattle.model.specs.declared.ReasonAnswer.the-variants.{Because};
 ghost use Rattle.model.specs.States.{modeNumber};
+ghost use Rattle.model.specs.Reasons.{reasonNumber, reasonValues};
 ghost use Rattle.digest.specs.Bytes.{digestOf, each, flagNumber, flagBytes, ownerBytes, deciderBytes, waiterBytes, queueBytes, agentBytes, slotBytes};
 ghost use Rattle.digest.specs.Bytes.{statusNumber, clientBytes, messageBytes, addressBytes, packetBytes, wireBytes, lockBytes, clusterBytes};
 use model::Address;
@@ -23,10 +24,13 @@ use model::Owner;
 use model::Packet;
 use model::QUEUE_CAPACITY;
 use model::Queue;
+use model::Reason;
+use model::ReasonAnswer;
 use model::Status;
 use model::WIRE_CAPACITY;
 use model::Waiter;
 use model::Wire;
+use parts::used::used;
 
 pub fn byte(h: u32, b: u8) -> u32
     ensures { λ r. ⌜ r ≡ digestOf h (b ∷ []) ⌝ }
@@ -59,14 +63,6 @@ fn mode_number(m: Mode) -> u8
         Mode::Exclusive => 2,
         Mode::Shared => 3,
     }
-}
-
-// A length may be above the capacity in a malformed cluster.
-fn least(n: u8, most: usize) -> usize
-    ensures { λ r. ⌜ r ≡ min n most ⌝ }
-{
-    let n = n as usize;
-    if n < most { n } else { most }
 }
 
 // ---- item 1
@@ -110,7 +106,7 @@ fn waiter(h: u32, w: Waiter) -> u32
 fn first_waiters(h: u32, a: [Waiter; QUEUE_CAPACITY], n: u8) -> u32
     ensures { λ r. ⌜ r ≡ digestOf h (each waiterBytes (take n a)) ⌝ }
 {
-    let m = least(n, QUEUE_CAPACITY);
+    let m = used(n, QUEUE_CAPACITY);
     let mut g = h;
     let mut j: usize = 0;
     while j < m {
@@ -239,7 +235,7 @@ fn packet(h: u32, p: Packet) -> u32
 fn first_packets(h: u32, a: [Packet; WIRE_CAPACITY], n: u8) -> u32
     ensures { λ r. ⌜ r ≡ digestOf h (each packetBytes (take n a)) ⌝ }
 {
-    let m = least(n, WIRE_CAPACITY);
+    let m = used(n, WIRE_CAPACITY);
     let mut g = h;
     let mut j: usize = 0;
     while j < m {
@@ -287,4 +283,27 @@ pub fn cluster(h: u32, x: Cluster) -> u32
 {
     let a = x.locks;
     locks(h, a)
+}
+
+// ---- what goes into the digest of a step: the answer to the question for a reason
+fn because(h: u32, r: Reason) -> u32
+    ensures { λ n. ⌜ n ≡ digestOf h (reasonValues (Because r)) ⌝ }
+{
+    match r {
+        Reason::Requested { index } => two(h, 1, index),
+        Reason::Granted { index } => two(h, 2, index),
+        Reason::Rejected { index } => two(h, 3, index),
+        Reason::Queued { machine, ahead } => byte(two(h, 4, machine.0), ahead),
+        Reason::Carried { index, ahead } => byte(two(h, 5, index), ahead),
+    }
+}
+
+// Its number, and the values of a reason.
+pub fn reason(h: u32, a: ReasonAnswer) -> u32
+    ensures { λ r. ⌜ r ≡ digestOf h (reasonNumber a ∷ reasonValues a) ⌝ }
+{
+    match a {
+        ReasonAnswer::Because(r) => because(byte(h, 0), r),
+        ReasonAnswer::Refused(r) => byte(h, r.number()),
+    }
 }

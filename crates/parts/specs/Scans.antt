@@ -1,11 +1,11 @@
 -- Loops over the used part of an array, `take n xs`: what is left of it from j on, and a test over that.
-use mathlib.Core.Path.{_≡_, sym, _∙_}
+use mathlib.Core.Path.{_≡_, refl, sym, _∙_}
 use mathlib.Core.Bool.{Bool, true, false, _&&_, and-assoc, and-true}
 use mathlib.Core.List.{List, [], _∷_}
-use Prim.Native.Nat.{ℕ, _+_, _<_, _≤_}
+use Prim.Native.Nat.{ℕ, _+_, _<_, _≤_, min}
 use native.Mathlib.Numerals.{add-one}
 use native.Mathlib.Omega.{arith}
-use lib.ListN.{length, take, drop, getD, drop-of-length-le}
+use lib.ListN.{length, take, drop, getD, length-take, drop-of-length-le}
 use lib.Seq.{drop-cons, getD-take, length-take-le}
 use Rattle.model.specs.Lists.{any, all}
 
@@ -21,19 +21,30 @@ module _ {A : Type 0} where
     pub any-none : length xs ≤ j → any p (drop j xs) ≡ false
     any-none h = rw drop-of-length-le
 
-  -- the first of what is left of the used part, and its end
+  -- the first of what is left of an array from j on
+  pub all-more : (xs : List A) (j : ℕ) (d : A) → j < length xs → drop j xs ≡ getD xs j d ∷ drop (j + 1) xs
+  all-more xs j d k = rw add-one (drop-cons xs j d k)
+
+  -- of its first len slots, or of all s where these are fewer, and their end
+  module _ (len : ℕ) (xs : List A) {m s : ℕ} (q : m ≡ min len s) (e : length xs ≡ s) where
+    pub in-use-more : (j : ℕ) (d : A) → j < m → drop j (take len xs) ≡ getD xs j d ∷ drop (j + 1) (take len xs)
+    in-use-more j d k =
+        let room : j < length (take len xs) = omega (arith, length-take len xs, q, e) in
+        rw (sym (getD-take len xs j d (omega (arith, q, k)))) (all-more (take len xs) j d room)
+
+    pub in-use-end : (j : ℕ) → m ≤ j → drop j (take len xs) ≡ []
+    in-use-end j k = let past : length (take len xs) ≤ j = omega (arith, length-take len xs, q, e, k) in drop-of-length-le (take len xs) past
+
+  -- and of the used part
   module _ (xs : List A) (n j : ℕ) (d : A) (k : n ≤ length xs) where
+    whole : n ≡ min n (length xs)
+    whole = omega (arith, k)
+
     pub used-more : j < n → drop j (take n xs) ≡ getD xs j d ∷ drop (j + 1) (take n xs)
-    used-more h =
-        let e : length (take n xs) ≡ n = length-take-le n xs k in
-        let q : j < length (take n xs) = omega arith in
-        rw (add-one, drop-cons (take n xs) j d q, getD-take)
+    used-more h = in-use-more n xs whole refl j d h
 
     pub used-end : n ≤ j → drop j (take n xs) ≡ []
-    used-end h =
-        let e : length (take n xs) ≡ n = length-take-le n xs k in
-        let q : length (take n xs) ≤ j = omega arith in
-        drop-of-length-le (take n xs) q
+    used-end h = in-use-end n xs whole refl j h
 
   module _ (p : A → Bool) (xs : List A) (n j : ℕ) (d : A) (k : n ≤ length xs) where
     pub used-hit : j < n → p (getD xs j d) ≡ true → any p (drop j (take n xs)) ≡ true

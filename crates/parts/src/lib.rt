@@ -3,4 +3,5 @@ pub mod blank;
 pub mod holders;
 pub mod queue;
 pub mod state;
+pub mod used;
 pub mod wire;

@@ -7,6 +7,6 @@ first-packets-spec = tie.close (tie.spec (λ _ n a _. Along packetBytes (take n 
     (search needs) (search needs) (search needs) (search needs) (search needs)
     (λ c. let b = c .before .before .before in
     let s = b .before .before .args in
-    rw (c .packet .ensures) (first-next (s .n) (s .t2) (b .before .least .ensures) (search needs) (b .loop .inv) _ (search needs)))
+    rw (c .packet .ensures) (first-next (s .n) (s .t2) (b .before .used .ensures) (search needs) (b .loop .inv) _ (search needs)))
     (λ c. let b = c .before in
-    let s = b .before .before .args in first-all (s .n) (s .t2) (b .before .least .ensures) (search needs) (b .loop .inv) (search needs)))
+    let s = b .before .before .args in first-all (s .n) (s .t2) (b .before .used .ensures) (search needs) (b .loop .inv) (search needs)))
