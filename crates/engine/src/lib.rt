@@ -24,9 +24,11 @@ ghost use Rattle.model.specs.Calls.{acquire, release, deliver, perform, lockOf}
 mod cluster;
 mod draining;
 pub mod lock_calls;
+mod waiting;
 
 pub use draining::drain;
 pub use formed::well_formed;
+pub use waiting::reason;
 
 pub fn fresh() -> Cluster
     ensures { λ r. ⌜ r ≡ fresh ⌝ }

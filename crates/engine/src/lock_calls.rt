@@ -35,7 +35,7 @@ ghost use Rattle.engine.specs.LockCalls.{rangeTests, further, acquireOn,
 pub use planning::plan::Plan;
 pub use planning::plan::carry_out;
 
-fn client_of(k: MachineId, t: TaskId) -> ClientId
+pub(crate) fn client_of(k: MachineId, t: TaskId) -> ClientId
     requires { ⌜ (k .0 < machines) × (t .0 < tasks) ⌝ }
     ensures { λ r. ⌜ r ≡ clientOf k t ⌝ }
 {
@@ -96,7 +96,7 @@ fn idle_test(s: LockState, c: ClientId) -> Answer
 }
 
 // Machine and task are in range. These tests come first, whatever others follow.
-fn range_test(k: MachineId, t: TaskId) -> Answer
+pub(crate) fn range_test(k: MachineId, t: TaskId) -> Answer
     ensures { λ r. ⌜ ((cs : List Cause) → first (rangeTests k t cs) ≡ further r (first cs)) ⌝ }
 {
     if MACHINES as u8 <= k.0 {

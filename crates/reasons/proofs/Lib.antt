@@ -1,0 +1,2 @@
+-- What the proofs of every function cite.
+mod Base

@@ -1,0 +1,245 @@
+// Why a client waits, in any state of a lock, made by hand or not: the first true of document 02's reasons, each at its lowest index or machine.
+ghost use mathlib.Core.Path.{_≡_};
+ghost use lib.ListN.{take};
+ghost use Rattle.model.specs.declared.Reason.the-variants.{Carried};
+ghost use Rattle.model.specs.WellFormed.{isClient};
+ghost use Rattle.model.specs.Trace.{isGrantFor};
+ghost use Rattle.model.specs.Reasons.{isRequestOf, firstTrue, reasonsIn, isWaiting, reasonIn};
+ghost use Rattle.reasons.specs.Finding.{seek};
+ghost use Rattle.reasons.specs.Searching.{isSought, aheadIn, seekQueues, onMachine, itself, inside, queueReason};
+use model::AgentSlot;
+use model::ClientId;
+use model::LockState;
+use model::MACHINES;
+use model::MachineId;
+use model::Message;
+use model::Packet;
+use model::QUEUE_CAPACITY;
+use model::Reason;
+use model::ReasonAnswer;
+use model::Refusal;
+use model::Status;
+use model::WIRE_CAPACITY;
+use model::Waiter;
+use parts::state::status_at;
+use parts::used::used;
+
+// A packet of the client: its request, its grant, its grant that was rejected.
+enum Sought {
+    Request,
+    Grant,
+    RejectedGrant,
+}
+
+// What a search comes to.
+enum Found {
+    Nowhere,
+    At(u8),
+}
+
+fn is_waiting(st: Status) -> bool
+    ensures { λ r. ⌜ r ≡ isWaiting st ⌝ }
+{
+    match st {
+        Status::Idle => false,
+        Status::Waiting(_) => true,
+        Status::Holding(_) => false,
+    }
+}
+
+// A marked ACQUIRE is of a client that was granted before.
+fn is_request_of(c: ClientId, m: Message) -> bool
+    ensures { λ r. ⌜ r ≡ isRequestOf c m ⌝ }
+{
+    match m {
+        Message::Free => false,
+        Message::Acquire {
+            client,
+            mode: _,
+            granted,
+        } => { if granted { false } else { c.0 == client.0 } }
+        Message::Grant { client: _, mode: _ } => false,
+        Message::Release { client: _ } => false,
+    }
+}
+
+fn is_grant_for(c: ClientId, m: Message) -> bool
+    ensures { λ r. ⌜ r ≡ isGrantFor c m ⌝ }
+{
+    match m {
+        Message::Free => false,
+        Message::Acquire {
+            client: _,
+            mode: _,
+            granted: _,
+        } => false,
+        Message::Grant { client, mode: _ } => c.0 == client.0,
+        Message::Release { client: _ } => false,
+    }
+}
+
+fn is_sought(k: Sought, c: ClientId, p: Packet) -> bool
+    ensures { λ r. ⌜ r ≡ isSought k c p ⌝ }
+{
+    let m = p.message;
+    match k {
+        Sought::Request => is_request_of(c, m),
+        Sought::Grant => {
+            if p.rejected {
+                false
+            } else {
+                is_grant_for(c, m)
+            }
+        }
+        Sought::RejectedGrant => {
+            if p.rejected {
+                is_grant_for(c, m)
+            } else {
+                false
+            }
+        }
+    }
+}
+
+fn first_packet(a: [Packet; WIRE_CAPACITY], len: u8, k: Sought, c: ClientId) -> Found
+    ensures { λ r. ⌜ r ≡ seek (isSought k c) 0 (take len a) ⌝ }
+{
+    let n = used(len, WIRE_CAPACITY);
+    let mut j: usize = 0;
+    while j < n {
+        let p = a[j];
+        if is_sought(k, c, p) {
+            return Found::At(j as u8);
+        }
+        j += 1;
+    }
+    Found::Nowhere
+}
+
+fn first_waiter(a: [Waiter; QUEUE_CAPACITY], len: u8, c: ClientId) -> Found
+    ensures { λ r. ⌜ r ≡ seek (isClient c) 0 (take len a) ⌝ }
+{
+    let n = used(len, QUEUE_CAPACITY);
+    let mut ahead: u8 = 0;
+    let mut j: usize = 0;
+    while j < n {
+        let w = a[j];
+        if w.client.0 == c.0 {
+            return Found::At(ahead);
+        }
+        ahead += 1;
+        j += 1;
+    }
+    Found::Nowhere
+}
+
+// How many are ahead of the client, where an agent is there and has it in its queue.
+fn ahead_in(c: ClientId, x: AgentSlot) -> Found
+    ensures { λ r. ⌜ r ≡ aheadIn c x ⌝ }
+{
+    if x.present {
+        let a = x.agent;
+        let q = a.queue;
+        let slots = q.slots;
+        first_waiter(slots, q.len, c)
+    } else {
+        Found::Nowhere
+    }
+}
+
+fn on_machines(a: [AgentSlot; MACHINES], c: ClientId) -> ReasonAnswer
+    ensures { λ r. ⌜ r ≡ seekQueues c itself onMachine 0 a ⌝ }
+{
+    let mut j: usize = 0;
+    while j < MACHINES {
+        let x = a[j];
+        let f = ahead_in(c, x);
+        match f {
+            Found::At(ahead) => {
+                return ReasonAnswer::Because(Reason::Queued {
+                    machine: MachineId(j as u8),
+                    ahead,
+                });
+            }
+            Found::Nowhere => {}
+        }
+        j += 1;
+    }
+    ReasonAnswer::Refused(Refusal::NotWaiting)
+}
+
+fn in_packets(a: [Packet; WIRE_CAPACITY], len: u8, c: ClientId) -> ReasonAnswer
+    ensures { λ r. ⌜ r ≡ seekQueues c inside Carried 0 (take len a) ⌝ }
+{
+    let n = used(len, WIRE_CAPACITY);
+    let mut j: usize = 0;
+    while j < n {
+        let p = a[j];
+        let x = p.carried;
+        let f = ahead_in(c, x);
+        match f {
+            Found::At(ahead) => {
+                return ReasonAnswer::Because(Reason::Carried {
+                    index: j as u8,
+                    ahead,
+                });
+            }
+            Found::Nowhere => {}
+        }
+        j += 1;
+    }
+    ReasonAnswer::Refused(Refusal::NotWaiting)
+}
+
+// Agents on machines come first, then those inside packets.
+fn first_in_queues(s: LockState, c: ClientId) -> ReasonAnswer
+    ensures { λ r. ⌜ r ≡ queueReason s c ⌝ }
+{
+    let agents = s.agents;
+    let w = s.wire;
+    let a = w.slots;
+    let queued = on_machines(agents, c);
+    match queued {
+        ReasonAnswer::Because(r) => ReasonAnswer::Because(r),
+        ReasonAnswer::Refused(_) => in_packets(a, w.len, c),
+    }
+}
+
+// Packets of the client come before queues.
+fn first_true(s: LockState, c: ClientId) -> ReasonAnswer
+    ensures { λ r. ⌜ r ≡ firstTrue s c (reasonsIn s) ⌝ }
+{
+    let w = s.wire;
+    let a = w.slots;
+    let asked = first_packet(a, w.len, Sought::Request, c);
+    match asked {
+        Found::At(index) => {
+            return ReasonAnswer::Because(Reason::Requested { index });
+        }
+        Found::Nowhere => {}
+    }
+    let granted = first_packet(a, w.len, Sought::Grant, c);
+    match granted {
+        Found::At(index) => {
+            return ReasonAnswer::Because(Reason::Granted { index });
+        }
+        Found::Nowhere => {}
+    }
+    let rejected = first_packet(a, w.len, Sought::RejectedGrant, c);
+    match rejected {
+        Found::At(index) => ReasonAnswer::Because(Reason::Rejected { index }),
+        Found::Nowhere => first_in_queues(s, c),
+    }
+}
+
+// The reason, in one lock's state.
+pub fn reason_in(s: LockState, c: ClientId) -> ReasonAnswer
+    ensures { λ r. ⌜ r ≡ reasonIn s c ⌝ }
+{
+    let clients = s.clients;
+    if is_waiting(status_at(clients, c)) {
+        first_true(s, c)
+    } else {
+        ReasonAnswer::Refused(Refusal::NotWaiting)
+    }
+}
