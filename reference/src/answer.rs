@@ -17,10 +17,12 @@ pub enum Refusal {
     RecordInvalid,
     TranscriptTooLong,
     NotQuiescent,
+    /// Also of a hand-made wait that has no reason.
+    NotWaiting,
 }
 
 impl Refusal {
-    /// The refusal's number (document 01, 'Zero and the refusals').
+    /// The refusal's number (document 01, 'Zero and the refusals'; 15: document 02, §2).
     pub fn number(self) -> u8 {
         match self {
             Refusal::LockOutOfRange => 1,
@@ -37,6 +39,7 @@ impl Refusal {
             Refusal::RecordInvalid => 12,
             Refusal::TranscriptTooLong => 13,
             Refusal::NotQuiescent => 14,
+            Refusal::NotWaiting => 15,
         }
     }
 }

@@ -7,6 +7,7 @@ use crate::model::{
     Address, Agent, ClientId, ClientStatus, Cluster, Decider, LockId, LockState, Message, Mode,
     Packet, Waiter, CLIENTS, LOCKS,
 };
+use crate::reasons::Reason;
 use crate::transcript::{Record, TranscriptOutcome};
 use std::fmt;
 use std::io::{self, Write};
@@ -74,6 +75,9 @@ struct OrNull<T>(Option<T>);
 /// Values with commas between them.
 struct List<I>(I);
 
+/// A client of a lock: why it waits is not in its status alone.
+struct ClientOf<'a>(&'a LockState, ClientId);
+
 impl<T: fmt::Display> fmt::Display for OrNull<T> {
     fn fmt(&self, f: &mut fmt::Formatter) -> fmt::Result {
         match &self.0 {
@@ -127,7 +131,8 @@ impl fmt::Display for Json<'_, LockState> {
     fn fmt(&self, f: &mut fmt::Formatter) -> fmt::Result {
         let decider = Json(&self.0.decider);
         let agents = List(self.0.agents.iter().map(|a| OrNull(a.as_ref().map(Json))));
-        let clients = List(self.0.clients.iter().map(Json));
+        let state = self.0;
+        let clients = List((0..CLIENTS as u8).map(|number| ClientOf(state, ClientId(number))));
         let wire = List(self.0.wire.iter().map(Json));
         write!(f, r#"{{"decider":{decider},"agents":[{agents}],"#)?;
         write!(f, r#""clients":[{clients}],"wire":[{wire}]}}"#)
@@ -173,15 +178,37 @@ impl fmt::Display for Json<'_, Waiter> {
     }
 }
 
-impl fmt::Display for Json<'_, ClientStatus> {
+impl fmt::Display for ClientOf<'_> {
     fn fmt(&self, f: &mut fmt::Formatter) -> fmt::Result {
-        let (status, mode) = match *self.0 {
+        let ClientOf(state, client) = *self;
+        let (status, mode) = match state.clients[client.index()] {
             ClientStatus::Idle => ("idle", None),
             ClientStatus::Waiting(mode) => ("waiting", Some(mode)),
             ClientStatus::Holding(mode) => ("holding", Some(mode)),
         };
         let mode = OrNull(mode.map(Mode::number));
-        write!(f, r#"{{"status":"{status}","mode":{mode}}}"#)
+        let reason = state.reason(client).ok();
+        let reason = OrNull(reason.as_ref().map(Json));
+        write!(
+            f,
+            r#"{{"status":"{status}","mode":{mode},"reason":{reason}}}"#
+        )
+    }
+}
+
+impl fmt::Display for Json<'_, Reason> {
+    fn fmt(&self, f: &mut fmt::Formatter) -> fmt::Result {
+        let (kind, index, machine, ahead) = match *self.0 {
+            Reason::Request { index } => ("ACQUIRE", Some(index), None, None),
+            Reason::Grant { index } => ("GRANT", Some(index), None, None),
+            Reason::RejectedGrant { index } => ("rejected GRANT", Some(index), None, None),
+            Reason::MachineQueue { machine, ahead } => ("queue", None, Some(machine), Some(ahead)),
+            Reason::PacketQueue { index, ahead } => ("queue", Some(index), None, Some(ahead)),
+        };
+        let machine = OrNull(machine.map(|machine| machine.0));
+        let (index, ahead) = (OrNull(index), OrNull(ahead));
+        write!(f, r#"{{"kind":"{kind}","index":{index},"#)?;
+        write!(f, r#""machine":{machine},"ahead":{ahead}}}"#)
     }
 }
 

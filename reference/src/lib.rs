@@ -2,7 +2,7 @@
 //!
 //! A cluster has eight locks on four machines with four tasks each. Its calls
 //! are `acquire`, `release`, `deliver`, `drain` and `run_transcript`; a refused
-//! call leaves the cluster exactly as it was.
+//! call leaves the cluster exactly as it was. `reason` only reads it.
 
 pub mod answer;
 pub mod counts;
@@ -16,6 +16,7 @@ pub mod random_calls;
 pub mod random_runs;
 pub mod random_states;
 pub mod random_transcripts;
+pub mod reasons;
 pub mod report;
 mod requests;
 pub mod transcript;

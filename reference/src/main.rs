@@ -96,7 +96,7 @@ fn bytes(make: fn(u64) -> Vec<u8>, seed: &str, out: &mut dyn Write) -> io::Resul
     out.write_all(&make(parse_seed(seed)?))
 }
 
-/// How often each kind of call met each answer, from 0 to 14.
+/// How often each kind of call met each answer, from 0 to 15.
 fn counts(out: &mut dyn Write) -> io::Result<()> {
     let parts = [
         ("runs", RUNS),
@@ -113,6 +113,12 @@ fn counts(out: &mut dyn Write) -> io::Result<()> {
         for (kind, answers) in KINDS.iter().zip(tally.answers) {
             writeln!(out, "{name} {kind} {answers:?}")?;
         }
+        write!(out, "{name} reasons")?;
+        for (kind, given) in (1..).zip(tally.reasons) {
+            write!(out, " {kind} {given}")?;
+        }
+        writeln!(out)?;
+        writeln!(out, "{name} several reasons {}", tally.several_reasons)?;
         writeln!(out, "{name} drain steps {}", tally.drain_steps)?;
         writeln!(out, "{name} longest drain {}", tally.longest_drain)?;
         writeln!(out, "{name} longest wire {}", tally.longest_wire)?;
@@ -121,6 +127,7 @@ fn counts(out: &mut dyn Write) -> io::Result<()> {
         write!(out, "{name} tested states {} ", tally.tested_states)?;
         write!(out, "most marked {} ", tally.most_marked)?;
         writeln!(out, "most packets {}", tally.most_packets)?;
+        writeln!(out, "{name} tested waits {}", tally.tested_waits)?;
     }
     Ok(())
 }

@@ -1,16 +1,19 @@
 //! How a step of a random run chooses its call (docs/random-runs.md).
 
-use crate::answer::Outcome;
+use crate::answer::{Outcome, Refusal};
 use crate::model::{
     Address, ClientId, ClientStatus, Cluster, LockId, LockState, MachineId, Message, Mode, Packet,
     TaskId, LOCKS,
 };
+use crate::reasons::Reason;
 use std::fmt;
 
 pub const ACQUIRE: u8 = 1;
 pub const RELEASE: u8 = 2;
 pub const DELIVER: u8 = 3;
 pub const DRAIN: u8 = 4;
+/// No step chooses this kind; one such ask follows each call.
+pub const REASON: u8 = 5;
 
 /// From this number on, out of 64, a client acquires whatever its status is.
 const BOLD: u64 = 62;
@@ -203,6 +206,11 @@ impl Call {
             RELEASE => cluster.release(self.lock, self.machine, self.task),
             _ => cluster.deliver(self.lock, self.index),
         }
+    }
+
+    /// Why the chosen client waits, also where the call itself has no client.
+    pub fn ask_reason(&self, cluster: &Cluster) -> Result<Reason, Refusal> {
+        cluster.reason(self.lock, self.machine, self.task)
     }
 }
 

@@ -3,8 +3,9 @@
 use crate::answer::{answer_number, Outcome};
 use crate::digest::Digest;
 use crate::generator::Generator;
-use crate::model::{Cluster, LockId};
-use crate::random_calls::{Call, Profile, DRAIN};
+use crate::model::{ClientId, Cluster, LockId};
+use crate::random_calls::{Call, Profile, DRAIN, REASON};
+use crate::reasons::reason_numbers;
 use crate::report::{Observation, Report};
 use std::io;
 
@@ -85,7 +86,7 @@ impl Run {
         )
     }
 
-    /// Perhaps a drain, then always one call.
+    /// Perhaps a drain, then always one call and one ask.
     fn one_step(&mut self, report: &mut Report) -> io::Result<()> {
         let outputs = self.generator.eight();
         let call = self.profile.choose_call(self.seed, &outputs, &self.cluster);
@@ -101,11 +102,26 @@ impl Run {
         report.tally.count(call.kind, answer);
         self.accepted += u64::from(outcome.is_ok());
         self.digest.bytes(&[call.kind, answer]);
+        let asked = self.ask_reason(call, report);
         if self.step.is_multiple_of(CLUSTER_STEPS) {
             self.digest.cluster(&self.cluster);
         }
-        self.step_line(call, answer, 0, &self.cluster, report)?;
+        self.step_line(call, answer, 0, &self.cluster, &asked, report)?;
         self.test_call(call, &outcome, report)
+    }
+
+    /// Asks why the chosen client waits; the numbers go into the digest and into the line.
+    fn ask_reason(&mut self, call: Call, report: &mut Report) -> Vec<u8> {
+        let outcome = call.ask_reason(&self.cluster);
+        report.tally.count(REASON, answer_number(&outcome));
+        if let Ok(reason) = outcome {
+            let state = &self.cluster.locks[call.lock.index()];
+            let all = state.all_reasons(ClientId::new(call.machine, call.task));
+            report.tally.count_reason(reason, all.len());
+        }
+        let numbers = reason_numbers(&outcome);
+        self.digest.bytes(&numbers);
+        numbers
     }
 
     /// A drain on a copy, which the run keeps or forgets by its seed.
@@ -129,7 +145,7 @@ impl Run {
         self.digest.bytes(&[call.kind, answer]);
         self.digest.bytes(&count.to_le_bytes());
         self.digest.cluster(&drained);
-        self.step_line(call, answer, count, &drained, report)?;
+        self.step_line(call, answer, count, &drained, &[], report)?;
         self.stop_if_broken(call.lock, tested)?;
         if self.seed / 16 % 2 == 1 {
             self.cluster = drained;
@@ -153,12 +169,14 @@ impl Run {
         tested.map_err(|broken: String| io::Error::other(line(broken)))
     }
 
+    /// The line of a drain, which asks nothing, ends before the reason.
     fn step_line(
         &self,
         call: Call,
         answer: u8,
         count: u16,
         cluster: &Cluster,
+        asked: &[u8],
         report: &mut Report,
     ) -> io::Result<()> {
         if !report.each_step {
@@ -170,9 +188,16 @@ impl Run {
         let (digest, alone) = (self.digest.value(), alone.value());
         write!(report.out, "{label} {seed} step {step} {call} ")?;
         let out = &mut report.out;
-        writeln!(
+        write!(
             out,
             "answer {answer} count {count} digest {digest} cluster {alone}"
-        )
+        )?;
+        if !asked.is_empty() {
+            write!(out, " reason")?;
+        }
+        for number in asked {
+            write!(out, " {number}")?;
+        }
+        writeln!(out)
     }
 }

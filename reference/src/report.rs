@@ -3,11 +3,19 @@
 use crate::answer::Refusal;
 use crate::counts::Counts;
 use crate::model::{Cluster, LockId, LockState, WIRE_CAPACITY};
+use crate::reasons::{Reason, REASON_KINDS};
 use std::io::Write;
 
-/// Kinds of calls: 0 a whole transcript, then acquire, release, deliver, drain.
-pub const KINDS: [&str; 5] = ["transcript", "acquire", "release", "deliver", "drain"];
-const ANSWERS: usize = 15;
+/// Kinds of calls: 0 a whole transcript, then acquire, release, deliver, drain, reason.
+pub const KINDS: [&str; 6] = [
+    "transcript",
+    "acquire",
+    "release",
+    "deliver",
+    "drain",
+    "reason",
+];
+const ANSWERS: usize = 16;
 
 /// How often each kind of call met each answer, and some extremes.
 #[derive(Clone, Debug, Default)]
@@ -22,6 +30,11 @@ pub struct Tally {
     pub tested_states: u64,
     pub most_marked: usize,
     pub most_packets: usize,
+    /// How often each kind of reason was given, and how often more than one was true.
+    pub reasons: [u64; REASON_KINDS],
+    pub several_reasons: u64,
+    /// How many waiting clients there were in the tested states.
+    pub tested_waits: u64,
 }
 
 impl Tally {
@@ -32,6 +45,12 @@ impl Tally {
     pub fn count_drain(&mut self, steps: u16) {
         self.drain_steps += u64::from(steps);
         self.longest_drain = self.longest_drain.max(steps);
+    }
+
+    /// Counts a reason that was given, out of so many true ones.
+    pub fn count_reason(&mut self, reason: Reason, true_reasons: usize) {
+        self.reasons[reason.kind_index()] += 1;
+        self.several_reasons += u64::from(true_reasons > 1);
     }
 
     /// Notes what a call did to a decider's incarnation and to a wire.
@@ -50,7 +69,9 @@ impl Tally {
         self.tested_states += 1;
         self.most_marked = self.most_marked.max(Counts::of(state).marked);
         self.most_packets = self.most_packets.max(state.wire.len());
-        state.check_counts()
+        state.check_counts()?;
+        self.tested_waits += state.check_reasons()? as u64;
+        Ok(())
     }
 
     /// The same after a call, with its answer; a lock out of range has no state.

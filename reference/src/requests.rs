@@ -52,7 +52,7 @@ impl Cluster {
 }
 
 /// Refusals 2 and 3, in this order.
-fn checked_client(machine: MachineId, task: TaskId) -> Result<ClientId, Refusal> {
+pub(crate) fn checked_client(machine: MachineId, task: TaskId) -> Result<ClientId, Refusal> {
     if !machine.is_valid() {
         return Err(Refusal::MachineOutOfRange);
     }

@@ -8,7 +8,7 @@ use reference::inspect::inspect;
 use std::io::Write;
 use std::process::{Command, Stdio};
 
-const IDLE: &str = r#"{"status":"idle","mode":null}"#;
+const IDLE: &str = r#"{"status":"idle","mode":null,"reason":null}"#;
 
 const REST: &str = concat!(
     r#"{"lock":1,"answer":0,"count":0},{"lock":2,"answer":0,"count":0},"#,
@@ -28,7 +28,8 @@ const TAKE_LINES: &str = r#"
 {"n":1,"kind":"acquire","lock":0,"machine":0,"task":0,"mode":3,"answer":0,"state":{
  "decider":{"mode":0,"machine":null,"incarnation":0},
  "agents":[null,null,null,null],
- "clients":[{"status":"waiting","mode":3},IDLE,IDLE,IDLE,
+ "clients":[{"status":"waiting","mode":3,
+ "reason":{"kind":"ACQUIRE","index":0,"machine":null,"ahead":null}},IDLE,IDLE,IDLE,
  IDLE,IDLE,IDLE,IDLE,IDLE,IDLE,IDLE,IDLE,IDLE,IDLE,IDLE,IDLE],
  "wire":[{"kind":"ACQUIRE","to":null,"client":0,"mode":3,
  "granted":false,"rejected":false,"agent":null}]},
@@ -36,7 +37,8 @@ const TAKE_LINES: &str = r#"
 {"n":2,"kind":"deliver","lock":0,"index":0,"answer":0,"state":{
  "decider":{"mode":3,"machine":0,"incarnation":0},
  "agents":[null,null,null,null],
- "clients":[{"status":"waiting","mode":3},IDLE,IDLE,IDLE,
+ "clients":[{"status":"waiting","mode":3,
+ "reason":{"kind":"GRANT","index":0,"machine":null,"ahead":null}},IDLE,IDLE,IDLE,
  IDLE,IDLE,IDLE,IDLE,IDLE,IDLE,IDLE,IDLE,IDLE,IDLE,IDLE,IDLE],
  "wire":[{"kind":"GRANT","to":0,"client":0,"mode":3,
  "granted":false,"rejected":false,
@@ -45,7 +47,7 @@ const TAKE_LINES: &str = r#"
 {"n":3,"kind":"deliver","lock":0,"index":0,"answer":0,"state":{
  "decider":{"mode":3,"machine":0,"incarnation":0},
  "agents":[{"mode":3,"holders":[0],"queue":[],"incarnation":0},null,null,null],
- "clients":[{"status":"holding","mode":3},IDLE,IDLE,IDLE,
+ "clients":[{"status":"holding","mode":3,"reason":null},IDLE,IDLE,IDLE,
  IDLE,IDLE,IDLE,IDLE,IDLE,IDLE,IDLE,IDLE,IDLE,IDLE,IDLE,IDLE],
  "wire":[]},
  "counts":{"agents":1,"marked":0}}
@@ -61,8 +63,9 @@ const SHARE_LINES: &str = r#"
 {"n":4,"kind":"acquire","lock":0,"machine":1,"task":0,"mode":3,"answer":0,"state":{
  "decider":{"mode":3,"machine":0,"incarnation":0},
  "agents":[{"mode":3,"holders":[0],"queue":[],"incarnation":0},null,null,null],
- "clients":[{"status":"holding","mode":3},IDLE,IDLE,IDLE,
- {"status":"waiting","mode":3},IDLE,IDLE,IDLE,
+ "clients":[{"status":"holding","mode":3,"reason":null},IDLE,IDLE,IDLE,
+ {"status":"waiting","mode":3,
+ "reason":{"kind":"ACQUIRE","index":0,"machine":null,"ahead":null}},IDLE,IDLE,IDLE,
  IDLE,IDLE,IDLE,IDLE,IDLE,IDLE,IDLE,IDLE],
  "wire":[{"kind":"ACQUIRE","to":null,"client":4,"mode":3,
  "granted":false,"rejected":false,"agent":null}]},
@@ -70,8 +73,9 @@ const SHARE_LINES: &str = r#"
 {"n":5,"kind":"deliver","lock":0,"index":0,"answer":0,"state":{
  "decider":{"mode":3,"machine":0,"incarnation":1},
  "agents":[{"mode":3,"holders":[0],"queue":[],"incarnation":0},null,null,null],
- "clients":[{"status":"holding","mode":3},IDLE,IDLE,IDLE,
- {"status":"waiting","mode":3},IDLE,IDLE,IDLE,
+ "clients":[{"status":"holding","mode":3,"reason":null},IDLE,IDLE,IDLE,
+ {"status":"waiting","mode":3,
+ "reason":{"kind":"GRANT","index":0,"machine":null,"ahead":null}},IDLE,IDLE,IDLE,
  IDLE,IDLE,IDLE,IDLE,IDLE,IDLE,IDLE,IDLE],
  "wire":[{"kind":"GRANT","to":1,"client":4,"mode":3,
  "granted":false,"rejected":false,"agent":null},
@@ -117,14 +121,16 @@ fn a_line_in_full() {
         r#"{"n":1,"kind":"acquire","lock":5,"machine":3,"task":2,"mode":2,"answer":0,"#,
         r#""state":{"decider":{"mode":0,"machine":null,"incarnation":0},"#,
         r#""agents":[null,null,null,null],"clients":["#,
-        r#"{"status":"idle","mode":null},{"status":"idle","mode":null},"#,
-        r#"{"status":"idle","mode":null},{"status":"idle","mode":null},"#,
-        r#"{"status":"idle","mode":null},{"status":"idle","mode":null},"#,
-        r#"{"status":"idle","mode":null},{"status":"idle","mode":null},"#,
-        r#"{"status":"idle","mode":null},{"status":"idle","mode":null},"#,
-        r#"{"status":"idle","mode":null},{"status":"idle","mode":null},"#,
-        r#"{"status":"idle","mode":null},{"status":"idle","mode":null},"#,
-        r#"{"status":"waiting","mode":2},{"status":"idle","mode":null}],"#,
+        r#"{"status":"idle","mode":null,"reason":null},{"status":"idle","mode":null,"reason":null},"#,
+        r#"{"status":"idle","mode":null,"reason":null},{"status":"idle","mode":null,"reason":null},"#,
+        r#"{"status":"idle","mode":null,"reason":null},{"status":"idle","mode":null,"reason":null},"#,
+        r#"{"status":"idle","mode":null,"reason":null},{"status":"idle","mode":null,"reason":null},"#,
+        r#"{"status":"idle","mode":null,"reason":null},{"status":"idle","mode":null,"reason":null},"#,
+        r#"{"status":"idle","mode":null,"reason":null},{"status":"idle","mode":null,"reason":null},"#,
+        r#"{"status":"idle","mode":null,"reason":null},{"status":"idle","mode":null,"reason":null},"#,
+        r#"{"status":"waiting","mode":2,"#,
+        r#""reason":{"kind":"ACQUIRE","index":0,"machine":null,"ahead":null}},"#,
+        r#"{"status":"idle","mode":null,"reason":null}],"#,
         r#""wire":[{"kind":"ACQUIRE","to":null,"client":14,"mode":2,"#,
         r#""granted":false,"rejected":false,"agent":null}]},"#,
         r#""counts":{"agents":0,"marked":0}}"#,
@@ -193,7 +199,8 @@ const EARLY_FREE_LINES: &str = r#"
 {"n":6,"kind":"release","lock":0,"machine":0,"task":0,"answer":0,"state":{
  "decider":{"mode":3,"machine":0,"incarnation":1},
  "agents":[null,null,null,null],
- "clients":[IDLE,IDLE,IDLE,IDLE,{"status":"waiting","mode":3},IDLE,IDLE,IDLE,
+ "clients":[IDLE,IDLE,IDLE,IDLE,{"status":"waiting","mode":3,
+ "reason":{"kind":"GRANT","index":0,"machine":null,"ahead":null}},IDLE,IDLE,IDLE,
  IDLE,IDLE,IDLE,IDLE,IDLE,IDLE,IDLE,IDLE],
  "wire":[{"kind":"GRANT","to":1,"client":4,"mode":3,
  "granted":false,"rejected":false,"agent":null},
@@ -206,7 +213,8 @@ const EARLY_FREE_LINES: &str = r#"
 {"n":7,"kind":"deliver","lock":0,"index":2,"answer":0,"state":{
  "decider":{"mode":3,"machine":0,"incarnation":1},
  "agents":[null,null,null,null],
- "clients":[IDLE,IDLE,IDLE,IDLE,{"status":"waiting","mode":3},IDLE,IDLE,IDLE,
+ "clients":[IDLE,IDLE,IDLE,IDLE,{"status":"waiting","mode":3,
+ "reason":{"kind":"GRANT","index":0,"machine":null,"ahead":null}},IDLE,IDLE,IDLE,
  IDLE,IDLE,IDLE,IDLE,IDLE,IDLE,IDLE,IDLE],
  "wire":[{"kind":"GRANT","to":1,"client":4,"mode":3,
  "granted":false,"rejected":false,"agent":null},
@@ -236,8 +244,8 @@ const TWO_HOLDERS_LINES: &str = r#"
 {"n":6,"kind":"deliver","lock":0,"index":0,"answer":0,"state":{
  "decider":{"mode":3,"machine":0,"incarnation":1},
  "agents":[{"mode":3,"holders":[0],"queue":[],"incarnation":0},null,null,null],
- "clients":[{"status":"holding","mode":3},IDLE,IDLE,IDLE,
- {"status":"holding","mode":3},IDLE,IDLE,IDLE,
+ "clients":[{"status":"holding","mode":3,"reason":null},IDLE,IDLE,IDLE,
+ {"status":"holding","mode":3,"reason":null},IDLE,IDLE,IDLE,
  IDLE,IDLE,IDLE,IDLE,IDLE,IDLE,IDLE,IDLE],
  "wire":[{"kind":"ACQUIRE","to":0,"client":4,"mode":3,
  "granted":true,"rejected":false,"agent":null}]},
@@ -245,15 +253,15 @@ const TWO_HOLDERS_LINES: &str = r#"
 {"n":7,"kind":"deliver","lock":0,"index":0,"answer":0,"state":{
  "decider":{"mode":3,"machine":0,"incarnation":1},
  "agents":[{"mode":3,"holders":[0,4],"queue":[],"incarnation":1},null,null,null],
- "clients":[{"status":"holding","mode":3},IDLE,IDLE,IDLE,
- {"status":"holding","mode":3},IDLE,IDLE,IDLE,
+ "clients":[{"status":"holding","mode":3,"reason":null},IDLE,IDLE,IDLE,
+ {"status":"holding","mode":3,"reason":null},IDLE,IDLE,IDLE,
  IDLE,IDLE,IDLE,IDLE,IDLE,IDLE,IDLE,IDLE],
  "wire":[]},
  "counts":{"agents":1,"marked":0}}
 {"n":8,"kind":"release","lock":0,"machine":1,"task":0,"answer":0,"state":{
  "decider":{"mode":3,"machine":0,"incarnation":1},
  "agents":[{"mode":3,"holders":[0,4],"queue":[],"incarnation":1},null,null,null],
- "clients":[{"status":"holding","mode":3},IDLE,IDLE,IDLE,IDLE,IDLE,IDLE,IDLE,
+ "clients":[{"status":"holding","mode":3,"reason":null},IDLE,IDLE,IDLE,IDLE,IDLE,IDLE,IDLE,
  IDLE,IDLE,IDLE,IDLE,IDLE,IDLE,IDLE,IDLE],
  "wire":[{"kind":"RELEASE","to":null,"client":4,"mode":null,
  "granted":false,"rejected":false,"agent":null}]},
@@ -277,8 +285,10 @@ const REJECTED_GRANT_LINES: &str = r#"
 {"n":10,"kind":"deliver","lock":0,"index":2,"answer":0,"state":{
  "decider":{"mode":3,"machine":0,"incarnation":1},
  "agents":[null,null,null,null],
- "clients":[IDLE,IDLE,IDLE,IDLE,{"status":"waiting","mode":3},IDLE,IDLE,IDLE,
- {"status":"waiting","mode":2},IDLE,IDLE,IDLE,IDLE,IDLE,IDLE,IDLE],
+ "clients":[IDLE,IDLE,IDLE,IDLE,{"status":"waiting","mode":3,
+ "reason":{"kind":"GRANT","index":0,"machine":null,"ahead":null}},IDLE,IDLE,IDLE,
+ {"status":"waiting","mode":2,
+ "reason":{"kind":"rejected GRANT","index":2,"machine":null,"ahead":null}},IDLE,IDLE,IDLE,IDLE,IDLE,IDLE,IDLE],
  "wire":[{"kind":"GRANT","to":1,"client":4,"mode":3,
  "granted":false,"rejected":false,"agent":null},
  {"kind":"ACQUIRE","to":0,"client":4,"mode":3,
@@ -291,8 +301,10 @@ const REJECTED_GRANT_LINES: &str = r#"
  "decider":{"mode":3,"machine":0,"incarnation":1},
  "agents":[{"mode":3,"holders":[],"queue":[{"client":8,"mode":2}],"incarnation":0},
  null,null,null],
- "clients":[IDLE,IDLE,IDLE,IDLE,{"status":"waiting","mode":3},IDLE,IDLE,IDLE,
- {"status":"waiting","mode":2},IDLE,IDLE,IDLE,IDLE,IDLE,IDLE,IDLE],
+ "clients":[IDLE,IDLE,IDLE,IDLE,{"status":"waiting","mode":3,
+ "reason":{"kind":"GRANT","index":0,"machine":null,"ahead":null}},IDLE,IDLE,IDLE,
+ {"status":"waiting","mode":2,
+ "reason":{"kind":"queue","index":null,"machine":0,"ahead":0}},IDLE,IDLE,IDLE,IDLE,IDLE,IDLE,IDLE],
  "wire":[{"kind":"GRANT","to":1,"client":4,"mode":3,
  "granted":false,"rejected":false,"agent":null},
  {"kind":"ACQUIRE","to":0,"client":4,"mode":3,
@@ -323,16 +335,20 @@ const QUEUE_LINES: &str = r#"
  "decider":{"mode":2,"machine":0,"incarnation":0},
  "agents":[{"mode":2,"holders":[0],
  "queue":[{"client":1,"mode":3},{"client":8,"mode":2}],"incarnation":0},null,null,null],
- "clients":[{"status":"holding","mode":2},{"status":"waiting","mode":3},IDLE,IDLE,
- IDLE,IDLE,IDLE,IDLE,{"status":"waiting","mode":2},IDLE,IDLE,IDLE,
+ "clients":[{"status":"holding","mode":2,"reason":null},{"status":"waiting","mode":3,
+ "reason":{"kind":"queue","index":null,"machine":0,"ahead":0}},IDLE,IDLE,
+ IDLE,IDLE,IDLE,IDLE,{"status":"waiting","mode":2,
+ "reason":{"kind":"queue","index":null,"machine":0,"ahead":1}},IDLE,IDLE,IDLE,
  IDLE,IDLE,IDLE,IDLE],
  "wire":[]},
  "counts":{"agents":1,"marked":0}}
 {"n":8,"kind":"release","lock":0,"machine":0,"task":0,"answer":0,"state":{
  "decider":{"mode":2,"machine":0,"incarnation":0},
  "agents":[null,null,null,null],
- "clients":[IDLE,{"status":"waiting","mode":3},IDLE,IDLE,
- IDLE,IDLE,IDLE,IDLE,{"status":"waiting","mode":2},IDLE,IDLE,IDLE,
+ "clients":[IDLE,{"status":"waiting","mode":3,
+ "reason":{"kind":"GRANT","index":0,"machine":null,"ahead":null}},IDLE,IDLE,
+ IDLE,IDLE,IDLE,IDLE,{"status":"waiting","mode":2,
+ "reason":{"kind":"queue","index":0,"machine":null,"ahead":0}},IDLE,IDLE,IDLE,
  IDLE,IDLE,IDLE,IDLE],
  "wire":[{"kind":"GRANT","to":null,"client":1,"mode":3,
  "granted":false,"rejected":false,
@@ -359,6 +375,62 @@ fn queue_with_two_waiters() {
     assert_last_lines(&bytes, QUEUE_LINES);
 }
 
+const AWAY_FROM_ZERO_LINES: &str = r#"
+{"n":9,"kind":"release","lock":0,"machine":3,"task":0,"answer":0,"state":{
+ "decider":{"mode":2,"machine":3,"incarnation":0},
+ "agents":[null,null,null,null],
+ "clients":[IDLE,IDLE,IDLE,IDLE,
+ {"status":"waiting","mode":3,
+ "reason":{"kind":"ACQUIRE","index":0,"machine":null,"ahead":null}},IDLE,IDLE,IDLE,
+ {"status":"waiting","mode":2,
+ "reason":{"kind":"ACQUIRE","index":1,"machine":null,"ahead":null}},IDLE,IDLE,IDLE,
+ IDLE,
+ {"status":"waiting","mode":2,
+ "reason":{"kind":"GRANT","index":2,"machine":null,"ahead":null}},
+ {"status":"waiting","mode":3,
+ "reason":{"kind":"queue","index":2,"machine":null,"ahead":0}},
+ {"status":"waiting","mode":2,
+ "reason":{"kind":"queue","index":2,"machine":null,"ahead":1}}],
+ "wire":[{"kind":"ACQUIRE","to":null,"client":4,"mode":3,
+ "granted":false,"rejected":false,"agent":null},
+ {"kind":"ACQUIRE","to":null,"client":8,"mode":2,
+ "granted":false,"rejected":false,"agent":null},
+ {"kind":"GRANT","to":null,"client":13,"mode":2,
+ "granted":false,"rejected":false,
+ "agent":{"mode":2,"holders":[],
+ "queue":[{"client":14,"mode":3},{"client":15,"mode":2}],"incarnation":0}}]},
+ "counts":{"agents":1,"marked":0}}
+{"end":"end","answer":0,"records":9,"drains":[{"lock":0,"answer":0,"count":26},REST]}
+"#;
+
+/// 3/0 holds, its neighbours queue on machine 3, 1/0 and 2/0 ask; then the agent leaves for 3/1 with the other two.
+/// The drain sends both ACQUIREs on and back (4 steps), installs the agent (2), queues 1/0 and 2/0 (4), releases 3/1 and
+/// installs the agent for 3/2, with a GRANT for 1/0 (5), releases 1/0 at the agent (3), then 3/2, 3/3 and 2/0 in turn,
+/// with two steps to bring each next GRANT (3, 3, 1), and ends with the FREE.
+#[test]
+fn reasons_away_from_zero() {
+    let bytes = [
+        8, 0, 1, 0, 0, 3, 0, 2, //
+        6, 0, 3, 0, 0, 0, //
+        6, 0, 3, 0, 0, 0, //
+        8, 0, 1, 0, 0, 3, 1, 2, //
+        8, 0, 1, 0, 0, 3, 2, 3, //
+        8, 0, 1, 0, 0, 3, 3, 2, //
+        8, 0, 1, 0, 0, 1, 0, 3, //
+        8, 0, 1, 0, 0, 2, 0, 2, //
+        7, 0, 2, 0, 0, 3, 0,
+    ];
+    assert_last_lines(&bytes, AWAY_FROM_ZERO_LINES);
+    // Before the release the three neighbours stand in the queue on machine 3.
+    let text = inspected(&bytes);
+    let before = text.lines().nth(7).expect("nine records");
+    for (mode, ahead) in [(2, 0), (3, 1), (2, 2)] {
+        let reason = format!(r#"{{"kind":"queue","index":null,"machine":3,"ahead":{ahead}}}"#);
+        let client = format!(r#"{{"status":"waiting","mode":{mode},"reason":{reason}}}"#);
+        assert!(before.contains(&client), "{before}");
+    }
+}
+
 #[test]
 fn lock_out_of_range_has_no_state() {
     let bytes = [
@@ -379,7 +451,8 @@ const REFUSED_LINES: &str = r#"
 {"n":2,"kind":"acquire","lock":7,"machine":0,"task":0,"mode":2,"answer":5,"state":{
  "decider":{"mode":0,"machine":null,"incarnation":0},
  "agents":[null,null,null,null],
- "clients":[{"status":"waiting","mode":3},IDLE,IDLE,IDLE,
+ "clients":[{"status":"waiting","mode":3,
+ "reason":{"kind":"ACQUIRE","index":0,"machine":null,"ahead":null}},IDLE,IDLE,IDLE,
  IDLE,IDLE,IDLE,IDLE,IDLE,IDLE,IDLE,IDLE,IDLE,IDLE,IDLE,IDLE],
  "wire":[{"kind":"ACQUIRE","to":null,"client":0,"mode":3,
  "granted":false,"rejected":false,"agent":null}]},
@@ -387,7 +460,8 @@ const REFUSED_LINES: &str = r#"
 {"n":3,"kind":"release","lock":7,"machine":4,"task":9,"answer":2,"state":{
  "decider":{"mode":0,"machine":null,"incarnation":0},
  "agents":[null,null,null,null],
- "clients":[{"status":"waiting","mode":3},IDLE,IDLE,IDLE,
+ "clients":[{"status":"waiting","mode":3,
+ "reason":{"kind":"ACQUIRE","index":0,"machine":null,"ahead":null}},IDLE,IDLE,IDLE,
  IDLE,IDLE,IDLE,IDLE,IDLE,IDLE,IDLE,IDLE,IDLE,IDLE,IDLE,IDLE],
  "wire":[{"kind":"ACQUIRE","to":null,"client":0,"mode":3,
  "granted":false,"rejected":false,"agent":null}]},

@@ -82,7 +82,15 @@ fn called(r: Progress, c: Choice) -> Progress {
     }
 }
 
-// Item 3: the cluster's bytes, after every sixteenth step.
+// Item 3: why the chosen client waits.
+fn asked(mut r: Progress, c: Choice) -> Progress {
+    let x = r.cluster;
+    let a = engine::reason(x, LockId(c.lock), MachineId(c.machine), TaskId(c.task));
+    r.digest = digest::reason(r.digest, a);
+    r
+}
+
+// Item 4: the cluster's bytes, after every sixteenth step.
 fn sampled(mut r: Progress, n: u16) -> Progress {
     if n % 16 == 0 {
         let x = r.cluster;
@@ -97,9 +105,9 @@ fn step(r: Progress, s: &mut u32, p: Profile, seed: u32, n: u16) -> Progress {
     let x = r.cluster;
     let c = choose(p, seed, x, o);
     if o.o0 % 64 == 0 {
-        sampled(called(drained(r, seed, c.lock), c), n)
+        sampled(asked(called(drained(r, seed, c.lock), c), c), n)
     } else {
-        sampled(called(r, c), n)
+        sampled(asked(called(r, c), c), n)
     }
 }
 
