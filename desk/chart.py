@@ -1,7 +1,7 @@
 """What a picture of one lock shows, by rows: a row for each step, and behind them one for each packet still on the wire at the end."""
 from dataclasses import dataclass, field
 
-from desk.lines import CLIENTS, MACHINES
+from desk.lines import CLIENTS, MACHINES, status_of
 from desk.rules import sent_back
 from desk.step import steps
 
@@ -52,7 +52,7 @@ def change(spans, old, new, row, idle):
 
 def add_spans(chart, step, row):
     for spans, old, new in zip(chart.clients, step.before["clients"], step.after["clients"]):
-        change(spans, old, new, row, {"status": "idle", "mode": None})
+        change(spans, status_of(old), status_of(new), row, {"status": "idle", "mode": None})
     for spans, old, new in zip(chart.agents, step.before["agents"], step.after["agents"]):
         change(spans, old is not None, new is not None, row, False)
 

@@ -1,10 +1,10 @@
 """explain: what each step of a transcript did, in words, from the lines that inspect writes."""
 from desk.command import Options, run
-from desk.lines import agents_of
+from desk.lines import agents_of, status_of
 from desk.refusals import reason
 from desk.rules import said
 from desk.step import steps
-from desk.words import MODES, agent, client, count, decider, packet, place, status
+from desk.words import MODES, agent, client, count, decider, packet, place, status_and_why, why
 
 INDENT = "   "
 
@@ -27,12 +27,23 @@ def delivered(step):
     return f" to {place(step.packet['to'])}, {packet(step.packet)}"
 
 
+def but_index(one):
+    """A reason without its index, which moves with every delivery of another packet."""
+    return one and {**one, "index": None}
+
+
+def change_of(number, old, new):
+    """What is new of a client: its status, or why it still waits; nothing where only an index moved."""
+    if status_of(old) != status_of(new):
+        yield f"{client(number)} {status_and_why(new, ' now')}."
+    elif but_index(old["reason"]) != but_index(new["reason"]):
+        yield f"{client(number)} still waits: {why(new['reason'])}."
+
+
 def changes(step):
-    """Who holds, waits or is idle now, and what the agents that changed have now."""
-    pairs = zip(step.before["clients"], step.after["clients"])
-    for number, (old, new) in enumerate(pairs):
-        if old != new:
-            yield f"{client(number)} {status(new, ' now')}."
+    """Who holds, waits or is idle now, and why one still waits; and what the agents that changed have now."""
+    for number, (old, new) in enumerate(zip(step.before["clients"], step.after["clients"])):
+        yield from change_of(number, old, new)
     for machine, (old, new) in enumerate(zip(step.before["agents"], step.after["agents"])):
         if new is not None and old != new:
             yield f"Agent on machine {machine}: {agent(new)}."
@@ -64,10 +75,10 @@ def counted(counts, state):
 def table(counts, state):
     """The whole state of a lock, and what is counted in it."""
     agents = [f"machine {machine}: {agent(one)}" for machine, one in enumerate(state["agents"]) if one]
-    busy = [f"{client(number)} {status(one)}" for number, one in enumerate(state["clients"]) if one["mode"]]
+    busy = [f"{client(number)} {status_and_why(one)}" for number, one in enumerate(state["clients"]) if one["mode"]]
     wire = [on_wire(number, one) for number, one in enumerate(state["wire"])]
     parts = [("decider", [decider(state["decider"])]), ("agents", agents or ["none on a machine"]),
-             ("clients", ["; ".join(busy) or "all idle"]), ("wire", wire or ["empty"]), ("counts", [counted(counts, state)])]
+             ("clients", busy or ["all idle"]), ("wire", wire or ["empty"]), ("counts", [counted(counts, state)])]
     for name, rows in parts:
         for number, row in enumerate(rows):
             yield f"{INDENT}| {'' if number else name:8}| {row}"
@@ -106,5 +117,6 @@ def text(options, lines):
 
 def main():
     parser = Options("explain", "Says in words what each step of a transcript did, who holds and who waits.")
-    parser.add_argument("--state", action="store_true", help="after each step a table of its lock: decider, agents, clients that are not idle, wire, counts")
+    parser.add_argument("--state", action="store_true",
+                        help="after each step a table of its lock: decider, agents, clients that are not idle and why they wait, wire, counts")
     run(parser, text)

@@ -8,7 +8,7 @@ from desk.lines import NotLines, name_of, read
 PAGE = pathlib.Path(__file__).resolve().parent.parent / "docs/inspect.md"
 # which object a field holds, or a list of which
 INSIDE = {"state": "state", "counts": "counts", "decider": "decider", "agents": "agent", "clients": "client", "wire": "packet", "queue": "waiter",
-          "agent": "agent", "drains": "drain"}
+          "agent": "agent", "reason": "reason", "drains": "drain"}
 
 
 def tables():

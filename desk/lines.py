@@ -1,6 +1,8 @@
 """The lines that `inspect` writes, as docs/inspect.md has them: each is read, held to its form, and given as a dictionary."""
 import json
 
+from desk.reasons import ON_WIRE, reasons
+
 LOCKS, MACHINES, CLIENTS, WIRE = 8, 4, 16, 33
 ANSWERS = {"acquire": (0, 1, 2, 3, 4, 5, 6, 9, 10, 11), "release": (0, 1, 2, 3, 7, 9, 10, 11), "deliver": (0, 1, 8, 9, 10, 11)}
 ENDS = {"end": 0, "bad record": 12, "too long": 13}
@@ -52,7 +54,9 @@ FORMS = {
     "decider": {"mode": one_of(0, 2, 3), "machine": or_null(number(MACHINES - 1)), "incarnation": BYTE},
     "agent": {"mode": MODE, "holders": rows(CLIENT), "queue": rows(thing("waiter")), "incarnation": BYTE},
     "waiter": {"client": CLIENT, "mode": MODE},
-    "client": {"status": one_of("idle", "waiting", "holding"), "mode": or_null(MODE)},
+    "client": {"status": one_of("idle", "waiting", "holding"), "mode": or_null(MODE), "reason": or_null(thing("reason"))},
+    "reason": {"kind": one_of(*ON_WIRE, "queue"), "index": or_null(number(WIRE - 1)), "machine": or_null(number(MACHINES - 1)),
+               "ahead": or_null(number(CLIENTS - 1))},
     "packet": {"kind": one_of("ACQUIRE", "GRANT", "RELEASE", "FREE"), "to": or_null(number(MACHINES - 1)), "client": or_null(CLIENT),
                "mode": or_null(MODE), "granted": FLAG, "rejected": FLAG, "agent": or_null(thing("agent"))},
     "end": {"end": one_of(*ENDS), "answer": one_of(*ENDS.values()), "records": number(65535), "drains": rows(thing("drain"), LOCKS)},
@@ -66,6 +70,28 @@ def whole_packet(packet):
     return ((packet["client"] is None) == (kind == "FREE") and (packet["mode"] is None) == (kind in ("FREE", "RELEASE"))
             and (not packet["granted"] or kind == "ACQUIRE") and (not packet["rejected"] or carries and packet["to"] is not None)
             and (carries if kind == "FREE" else not carries or kind == "GRANT"))
+
+
+def whole_reason(reason):
+    """What a reason of its kind has, and what it does not have: an index or a machine, and only a queue has a machine and a number ahead."""
+    queue = reason["kind"] == "queue"
+    return ((reason["index"] is None) != (reason["machine"] is None) and (reason["ahead"] is not None) == queue
+            and (queue or reason["machine"] is None))
+
+
+def whole_client(client):
+    """An idle client has no mode, and only a waiting one a reason."""
+    return (client["status"] == "idle") == (client["mode"] is None) and (client["reason"] is None or client["status"] == "waiting")
+
+
+def whole_state(state):
+    """The reasons are those that the state gives."""
+    return [client["reason"] for client in state["clients"]] == reasons(state)
+
+
+def status_of(client):
+    """A client without its reason, which can change while its status stays."""
+    return {"status": client["status"], "mode": client["mode"]}
 
 
 def agents_of(state):
@@ -85,9 +111,9 @@ def whole_record(line):
 
 
 WHOLE = {
-    "acquire": whole_record, "release": whole_record, "deliver": whole_record, "packet": whole_packet,
+    "acquire": whole_record, "release": whole_record, "deliver": whole_record, "packet": whole_packet, "reason": whole_reason, "client": whole_client,
+    "state": whole_state,
     "decider": lambda decider: (decider["mode"] == 0) == (decider["machine"] is None),
-    "client": lambda client: (client["status"] == "idle") == (client["mode"] is None),
     "agent": lambda agent: agent["holders"] == sorted(set(agent["holders"])),
     "end": lambda end: end["answer"] == ENDS[end["end"]] and [drain["lock"] for drain in end["drains"]] == list(range(LOCKS)),
 }
@@ -96,7 +122,7 @@ WHOLE = {
 def fresh():
     """The state of a lock at the beginning."""
     return {"decider": {"mode": 0, "machine": None, "incarnation": 0}, "agents": [None] * MACHINES,
-            "clients": [{"status": "idle", "mode": None} for _ in range(CLIENTS)], "wire": []}
+            "clients": [{"status": "idle", "mode": None, "reason": None} for _ in range(CLIENTS)], "wire": []}
 
 
 def name_of(line):

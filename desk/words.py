@@ -2,6 +2,7 @@
 
 MODES = {2: "exclusive", 3: "shared"}
 STATUSES = {"idle": "is idle", "waiting": "waits", "holding": "holds"}
+UNDER_WAY = {"ACQUIRE": "its ACQUIRE is", "GRANT": "its GRANT is", "rejected GRANT": "its GRANT was rejected and is"}
 
 
 def client(number):
@@ -37,6 +38,22 @@ def status(client, when=""):
     """What a client does: is idle; waits, shared; holds now, exclusive."""
     words = STATUSES[client["status"]] + when
     return words if client["mode"] is None else f"{words}, {MODES[client['mode']]}"
+
+
+def why(reason):
+    """The reason for a client's wait; a state made by hand may give none."""
+    if reason is None:
+        return "no reason is found"
+    if reason["kind"] != "queue":
+        return f"{UNDER_WAY[reason['kind']]} on the wire, at index {reason['index']}"
+    whose = f"of the agent in the packet at index {reason['index']}" if reason["machine"] is None else f"on machine {reason['machine']}"
+    ahead = f"behind {count(reason['ahead'], 'other')}" if reason["ahead"] else "first"
+    return f"{ahead} in the queue {whose}"
+
+
+def status_and_why(client, when=""):
+    """What a client does, and for one that waits the reason: holds, shared; waits now, shared: first in the queue on machine 0."""
+    return status(client, when) + (f": {why(client['reason'])}" if client["status"] == "waiting" else "")
 
 
 def queue(waiters):

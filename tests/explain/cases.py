@@ -11,10 +11,11 @@
 
 A line that begins with a blank goes on with the one before it. A STATE is written as in docs/inspect.md, with these shorter forms: whatever is as in a fresh
 lock, null, false, empty or 0 is left out; the decider is [MODE,MACHINE,INCARNATION]; agents and clients are given by number, a client as [STATUS,MODE] and a
-waiter as [CLIENT,MODE]; a packet with "times" stands that often."""
+waiter as [CLIENT,MODE]; a packet with "times" stands that often. The clients' reasons are put in from the rest of the state."""
 import json
 
 from desk.lines import FORMS, LOCKS, fresh, shown
+from desk.reasons import reasons
 
 KINDS = {"acquire": ["lock", "machine", "task", "mode"], "release": ["lock", "machine", "task"], "deliver": ["lock", "index"]}
 MODES = {"shared": 3, "exclusive": 2}
@@ -77,8 +78,10 @@ def state_of(text):
     for machine, agent in short.get("agents", {}).items():
         state["agents"][int(machine)] = agent_of(agent)
     for number, (status, mode) in short.get("clients", {}).items():
-        state["clients"][int(number)] = {"status": status, "mode": mode}
+        state["clients"][int(number)].update(status=status, mode=mode)
     state["wire"] = [packet_of(packet) for packet in short.get("wire", []) for _ in range(packet.get("times", 1))]
+    for client, found in zip(state["clients"], reasons(state)):
+        client["reason"] = found
     return state
 
 

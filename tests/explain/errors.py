@@ -1,8 +1,10 @@
 """What explain, picture, inspect and replay refuse: a command, its standard input, and the one line that it should write on standard error."""
 import json
+import pathlib
 
-from cases import end_of, numbered, state_of
+from cases import cases_of, end_of, numbered, state_of
 from desk.lines import fresh, shown
+from desk.reasons import reason
 
 
 def lines(*objects):
@@ -20,6 +22,16 @@ def after(number, words, state, answer=0):
 
 def replaced(line, **fields):
     return {**line, **fields}
+
+
+RIGHT = {case.name: case.objects for case in cases_of(pathlib.Path(__file__).parent / "reasons.cases")}
+
+
+def with_reason(name, number, client, wrong):
+    """The state of a case's line, shown by a refused delivery, in which a client has a wrong reason."""
+    state = json.loads(json.dumps(RIGHT[name][number - 1]["state"]))
+    state["clients"][client]["reason"] = wrong
+    return lines({**numbered(1, "deliver 0 255", 8), **shown(state)}, end_of("1 = 0 {}"))
 
 
 END = end_of("0 = 0 {}")
@@ -69,6 +81,43 @@ NOT_LINES = [
     (lines({**numbered(1, "deliver 0 0", 8), **shown(None)}, end_of("1 = 0 {}")), FIRST),
     (lines(after(1, "deliver 0 0", '{}'), end_of("1 = 0 {}")), FOLLOWS),
     (lines(refused(1), after(2, "deliver 0 1", '{"decider":[3,0,0]}', 8), end_of("2 = 0 {}")), FOLLOWS.replace("1", "2", 1)),
+]
+
+REJECTED, MOVED, NOTHING = "a rejected GRANT, and two in the queue of its agent", "only indexes move", "nothing of a client is under way"
+KINDS, LOWEST = "two reasons of different kinds", "two reasons of one kind"
+# a reason that the state of a case's line does not give to this client
+WRONG_REASONS = [
+    (REJECTED, 1, 0, reason("ACQUIRE", index=1)),  # it is idle
+    (REJECTED, 1, 4, reason("ACQUIRE", index=1)),  # it holds, and the ACQUIRE is marked
+    (REJECTED, 1, 8, None),
+    (REJECTED, 1, 8, {}),
+    (REJECTED, 1, 8, reason("rejected GRANT", index=0)),
+    (REJECTED, 2, 8, reason("GRANT", index=1)),
+    (REJECTED, 3, 8, reason("queue", index=0, ahead=0)),
+    (REJECTED, 3, 13, reason("queue", machine=0, ahead=3)),  # 2 are ahead
+    (REJECTED, 3, 13, reason("queue", machine=1, ahead=2)),
+    (REJECTED, 2, 12, reason("queue", index=0, ahead=0)),
+    (REJECTED, 3, 12, reason("queue", machine=0, ahead=True)),
+    (REJECTED, 3, 12, dict(reversed(reason("queue", machine=0, ahead=1).items()))),
+    (MOVED, 2, 5, reason("GRANT", index=5)),  # the index of its marked ACQUIRE
+    (MOVED, 3, 5, reason("GRANT", index=2)),  # the index before the step
+    (NOTHING, 2, 3, reason("ACQUIRE", index=0)),
+    (KINDS, 2, 4, reason("GRANT", index=0)),  # true, but another comes first
+    (KINDS, 2, 7, reason("queue", index=2, ahead=0)),
+    (KINDS, 2, 10, reason("ACQUIRE", index=5)),
+    (LOWEST, 2, 4, reason("ACQUIRE", index=1)),
+    (LOWEST, 2, 8, reason("queue", machine=3, ahead=0)),
+    (LOWEST, 2, 10, reason("queue", index=4, ahead=0)),  # it stands there and is idle
+]
+NOT_LINES += [(with_reason(*wrong), FIRST) for wrong in WRONG_REASONS]
+
+# what is no reason in any state, and no client: the form alone refuses it
+NOT_IN_FORM = [
+    *(("reason", wrong) for wrong in [
+        reason("RELEASE", index=0), reason("GRANT"), reason("GRANT", machine=0), reason("GRANT", index=0, machine=0), reason("ACQUIRE", index=0, ahead=0),
+        reason("queue", index=0), reason("queue", machine=0), reason("queue", ahead=0), reason("queue", index=0, machine=0, ahead=0),
+        reason("GRANT", index=33), reason("queue", machine=4, ahead=0), reason("queue", machine=0, ahead=16), reason("GRANT", index=False)]),
+    *(("client", {"status": status, "mode": mode, "reason": reason("GRANT", index=0)}) for status, mode in [("idle", None), ("holding", 3)]),
 ]
 
 NO_LOCK = lines({**numbered(1, "deliver 7 0", 1), **shown(None)}, end_of("1 = 0 {}"))

@@ -16,10 +16,13 @@ use model::Owner;
 use model::Packet;
 use model::QUEUE_CAPACITY;
 use model::Queue;
+use model::Reason;
+use model::ReasonAnswer;
 use model::Status;
 use model::WIRE_CAPACITY;
 use model::Waiter;
 use model::Wire;
+use reasons::reason_in;
 
 // A field's name and its number.
 pub fn put_field(out: &mut [u8], at: usize, name: &[u8], n: u16) -> usize {
@@ -146,36 +149,78 @@ fn put_agents(out: &mut [u8], start: usize, agents: [AgentSlot; MACHINES]) -> us
     k
 }
 
-fn put_status(out: &mut [u8], at: usize, c: ClientState) -> usize {
-    let s = c.status;
-    match s {
-        Status::Idle => put_text(out, at, b"{\"status\":\"idle\",\"mode\":null}"),
-        Status::Waiting(m) => {
+// A packet of the client, at an index.
+fn put_under_way(out: &mut [u8], at: usize, kind: &[u8], index: u8) -> usize {
+    let k = put_text(out, at, b"{\"kind\":\"");
+    let k = put_text(out, k, kind);
+    let k = put_field(out, k, b"\",\"index\":", index as u16);
+    put_text(out, k, b",\"machine\":null,\"ahead\":null}")
+}
+
+fn put_reason(out: &mut [u8], at: usize, r: Reason) -> usize {
+    match r {
+        Reason::Requested { index } => put_under_way(out, at, b"ACQUIRE", index),
+        Reason::Granted { index } => put_under_way(out, at, b"GRANT", index),
+        Reason::Rejected { index } => put_under_way(out, at, b"rejected GRANT", index),
+        Reason::Queued { machine, ahead } => {
             let k = put_field(
                 out,
                 at,
-                b"{\"status\":\"waiting\",\"mode\":",
-                mode_number(m),
+                b"{\"kind\":\"queue\",\"index\":null,\"machine\":",
+                machine.0 as u16,
             );
+            let k = put_field(out, k, b",\"ahead\":", ahead as u16);
             put_text(out, k, b"}")
         }
-        Status::Holding(m) => {
-            let k = put_field(
-                out,
-                at,
-                b"{\"status\":\"holding\",\"mode\":",
-                mode_number(m),
-            );
+        Reason::Carried { index, ahead } => {
+            let k = put_field(out, at, b"{\"kind\":\"queue\",\"index\":", index as u16);
+            let k = put_field(out, k, b",\"machine\":null,\"ahead\":", ahead as u16);
             put_text(out, k, b"}")
         }
     }
 }
 
-fn put_clients(out: &mut [u8], start: usize, clients: [ClientState; CLIENTS]) -> usize {
+fn put_answer(out: &mut [u8], at: usize, a: ReasonAnswer) -> usize {
+    match a {
+        ReasonAnswer::Because(r) => put_reason(out, at, r),
+        ReasonAnswer::Refused(_) => put_text(out, at, b"null"),
+    }
+}
+
+fn put_status(out: &mut [u8], at: usize, s: Status) -> usize {
+    match s {
+        Status::Idle => put_text(out, at, b"{\"status\":\"idle\",\"mode\":null"),
+        Status::Waiting(m) => put_field(
+            out,
+            at,
+            b"{\"status\":\"waiting\",\"mode\":",
+            mode_number(m),
+        ),
+        Status::Holding(m) => put_field(
+            out,
+            at,
+            b"{\"status\":\"holding\",\"mode\":",
+            mode_number(m),
+        ),
+    }
+}
+
+// A client's status, and why it waits.
+fn put_client(out: &mut [u8], at: usize, c: ClientState, a: ReasonAnswer) -> usize {
+    let s = c.status;
+    let k = put_status(out, at, s);
+    let k = put_text(out, k, b",\"reason\":");
+    let k = put_answer(out, k, a);
+    put_text(out, k, b"}")
+}
+
+fn put_clients(out: &mut [u8], start: usize, s: LockState) -> usize {
+    let clients = s.clients;
     let mut k = start;
-    for i in 0..CLIENTS {
+    for i in 0..CLIENTS as u8 {
         k = put_comma(out, start, k);
-        k = put_status(out, k, clients[i]);
+        let a = reason_in(s, ClientId(i));
+        k = put_client(out, k, clients[i as usize], a);
     }
     k
 }
@@ -267,27 +312,21 @@ fn put_wire(out: &mut [u8], at: usize, w: Wire) -> usize {
     put_text(out, k, b"]")
 }
 
-fn put_lists(
-    out: &mut [u8],
-    at: usize,
-    agents: [AgentSlot; MACHINES],
-    clients: [ClientState; CLIENTS],
-) -> usize {
+fn put_lists(out: &mut [u8], at: usize, s: LockState) -> usize {
+    let agents = s.agents;
     let k = put_text(out, at, b",\"agents\":[");
     let k = put_agents(out, k, agents);
     let k = put_text(out, k, b"],\"clients\":[");
-    let k = put_clients(out, k, clients);
+    let k = put_clients(out, k, s);
     put_text(out, k, b"],\"wire\":")
 }
 
 pub fn put_state(out: &mut [u8], at: usize, s: LockState) -> usize {
     let decider = s.decider;
-    let agents = s.agents;
-    let clients = s.clients;
     let wire = s.wire;
     let k = put_text(out, at, b"{\"decider\":");
     let k = put_decider(out, k, decider);
-    let k = put_lists(out, k, agents, clients);
+    let k = put_lists(out, k, s);
     let k = put_wire(out, k, wire);
     put_text(out, k, b"}")
 }

@@ -6,6 +6,6 @@ use Rattle.inspect.proofs.parts.put_clients.Statement.{statement}
 use Rattle.inspect.proofs.parts.put_clients.Tie as tie
 
 pub put-clients-spec : {M : Type 1} → statement M
-put-clients-spec = tie.close (tie.spec (λ out₀ _ _ _ _ out _ _. length out ≡ length out₀) (λ _ _ _ _ _ _ _ i. 16 - i)
+put-clients-spec = tie.close (tie.spec (λ out₀ _ _ _ _ _ out _ _. length out ≡ length out₀) (λ _ _ _ _ _ _ _ _ i. 16 - i)
     (search needs) (search needs) (search needs) (search needs) (search needs) (search needs) (search needs) (search needs) (search needs)
-    (search needs))
+    (search needs) (search needs) (search needs))
