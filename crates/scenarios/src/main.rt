@@ -1,6 +1,7 @@
 // Runs the script on standard input, which makes states by hand, calls on them and prints the answers. The file stdin is the script, and says at its
 // top what a script has; the file stdout was written by hand from document 01.
 mod call;
+mod reasons;
 mod script;
 mod show;
 

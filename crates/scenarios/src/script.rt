@@ -1,5 +1,6 @@
 // The commands of the script, one after the other.
 use crate::call;
+use crate::reasons;
 use crate::show;
 use by_hand::agents;
 use by_hand::line;
@@ -80,6 +81,7 @@ fn printed(m: Made, k: usize, r: &[u8]) {
         3 => call::tried(m.cluster, r),
         4 => call::inside(m.cluster, r),
         5 => call::outside(m.cluster, r),
+        6 => reasons::asked(m.cluster, r),
         _ => {}
     }
 }
@@ -87,11 +89,11 @@ fn printed(m: Made, k: usize, r: &[u8]) {
 // The numbers of the command are n; a command of no other word is a call.
 fn changed(m: Made, k: usize, s: &[u8], r: &[u8], n: Numbers) -> Made {
     match k {
-        6 => nothing(),
-        7 => keeping(m),
-        8 => with_lock(m, r, n),
-        9 => with_slot(m, r, n),
-        10 => with_packet(m, r, n),
+        7 => nothing(),
+        8 => keeping(m),
+        9 => with_lock(m, r, n),
+        10 => with_slot(m, r, n),
+        11 => with_packet(m, r, n),
         _ => with_call(m, s),
     }
 }
@@ -101,9 +103,9 @@ fn command(m: Made, s: &[u8]) -> Made {
     let k = line::place(
         s,
         0,
-        b"*say *bound *show *try *inside *outside *fresh *keep *lock *agent *packet",
+        b"*say *bound *show *try *inside *outside *reason *fresh *keep *lock *agent *packet",
     );
-    if k < 6 {
+    if k < 7 {
         printed(m, k, rest(s));
         return m;
     }
