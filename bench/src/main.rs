@@ -14,10 +14,12 @@ extern "C" {
     fn domezatsy_replays(bytes: *const u8, len: usize, times: u32) -> u32;
     fn domezatsy_calls(bytes: *const u8, len: usize) -> u32;
     fn domezatsy_drains(bytes: *const u8, len: usize, lock: u8, times: u32) -> u32;
+    fn domezatsy_reasons(bytes: *const u8, len: usize, lock: u8, client: u8, times: u32) -> u32;
 }
 
 const ROUNDS: usize = 9;
 const DRAINS: u32 = 2_000;
+const QUESTIONS: u32 = 2_000;
 /// The sizes of the engine's states, which its functions take and give by value.
 const LOCK_BYTES: usize = 2_192;
 const CLUSTER_BYTES: usize = 17_536;
@@ -119,6 +121,26 @@ fn drains_of(bytes: &[u8], cluster: &Cluster) -> (f64, f64) {
     )
 }
 
+/// Asks so often why a client waits, one that does; a reason is answered with 0.
+fn questions_of(bytes: &[u8], cluster: &Cluster) -> (f64, f64) {
+    let waits = |status: &ClientStatus| matches!(status, ClientStatus::Waiting(_));
+    let client = cluster.locks[0].clients.iter().position(waits).expect("a client waits") as u8;
+    let (machine, task) = (client / 4, client % 4);
+    race(
+        || {
+            let (from, len) = (bytes.as_ptr(), bytes.len());
+            let total = unsafe { domezatsy_reasons(from, len, 0, client, QUESTIONS) };
+            assert_eq!(black_box(total), QUESTIONS, "the client has a reason");
+        },
+        || {
+            for _ in 0..QUESTIONS {
+                let reason = cluster.reason(LockId(0), MachineId(machine), TaskId(task));
+                black_box(reason.expect("the client has a reason"));
+            }
+        },
+    )
+}
+
 /// What passing a state by value costs by itself: so many bytes copied into a call and out of it, so many times.
 fn copies(size: usize, times: usize) {
     let (mut state, mut passed) = (vec![0u8; size], vec![0u8; size]);
@@ -160,6 +182,7 @@ fn main() {
     row("a public call, all locks in use", calls, all_records);
     let runs = race(|| engine_runs(&full, 1), || reference_runs(&full, 1));
     row("a full-size transcript", runs, 1.0);
+    row("a question for a reason", questions_of(&busy, &cluster), f64::from(QUESTIONS));
     let drains = drains_of(&busy, &cluster);
     let steps = cluster.drain(LockId(0)).expect("a drain ends");
     row(&format!("a drain of {steps} steps"), drains, f64::from(DRAINS));

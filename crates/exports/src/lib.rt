@@ -2,14 +2,16 @@
 use model::Answer;
 use model::Cluster;
 use model::LockId;
+use model::MachineId;
 use model::Reading;
+use model::TaskId;
 ghost use mathlib.Core.Path.{_≡_};
-ghost use Prim.Native.Nat.{_*_, _%_, _^_};
+ghost use Prim.Native.Nat.{_+_, _*_, _%_, _^_};
 ghost use Rattle.model.specs.States.{fresh};
 ghost use Rattle.model.specs.Drain.{drain};
 ghost use Rattle.model.specs.Transcripts.{replay};
 ghost use Rattle.digest.specs.Bytes.{digestOf, clusterBytes};
-ghost use Rattle.exports.specs.Counts.{acceptedOne, acceptedCalls};
+ghost use Rattle.exports.specs.Counts.{acceptedOne, acceptedCalls, answered};
 
 // The digest of the cluster that the transcript leads to.
 #[no_mangle]
@@ -95,4 +97,26 @@ fn drains(x: Cluster, lock: u8, times: u32) -> u32
         left -= 1;
     }
     steps
+}
+
+// Asks why the client, by number, waits in the cluster that the transcript leads to, so many times: the numbers of the answers and 1 for each.
+#[no_mangle]
+pub extern "C" fn domezatsy_reasons(bytes: &[u8], lock: u8, client: u8, times: u32) -> u32
+    ensures { λ r. ⌜ r ≡ (times * (answered (replay fresh (now (bytes .entry)) .cluster) lock client + 1)) % 2 ^ 32 ⌝ }
+{
+    let r = transcript::run::replay(engine::fresh(), bytes);
+    asked(r.cluster, lock, client, times)
+}
+
+fn asked(x: Cluster, lock: u8, client: u8, times: u32) -> u32
+    ensures { λ r. ⌜ r ≡ (times * (answered x lock client + 1)) % 2 ^ 32 ⌝ }
+{
+    let mut total: u32 = 0;
+    let mut left = times;
+    while left > 0 {
+        let a = engine::reason(x, LockId(lock), MachineId(client / 4), TaskId(client % 4));
+        total = std::num::wrapping_add_u32(total, a.number() as u32 + 1);
+        left -= 1;
+    }
+    total
 }
