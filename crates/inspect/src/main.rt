@@ -2,7 +2,6 @@
 // after it, and one for how the run ended. docs/inspect.md has the fields.
 mod lines;
 mod objects;
-mod parts;
 
 fn main() {
     // One byte more than a transcript may have, so that a longer one shows.

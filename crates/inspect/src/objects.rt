@@ -1,11 +1,11 @@
 // A record's line, and the last line, in JSON.
-use crate::parts::put_comma;
-use crate::parts::put_field;
-use crate::parts::put_state;
 use counts::agents_in;
 use counts::marks_in;
 use engine::drain;
 use engine::lock_calls::lock_of;
+use json::put_comma;
+use json::put_field;
+use json::put_state;
 use listing::put_text;
 use model::Answer;
 use model::Call;
