@@ -1,4 +1,3 @@
--- What the code tests and loops over, and laws that join it to the model's calls and drain.
+-- What the code tests, and laws that join it to the model's calls.
 pub mod Names
 pub mod LockCalls
-pub mod DrainState

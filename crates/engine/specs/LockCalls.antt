@@ -13,13 +13,12 @@ use Rattle.engine.specs.Names.{LockId, MachineId, TaskId, Refusal, Malfo
 use Rattle.engine.specs.Names.{Answer, Accepted, Refused, LockState, Cluster, Call, AcquireCall, ReleaseCall}
 use Rattle.engine.specs.Names.{DeliverCall, Stepped, Outcome}
 use Rattle.model.specs.States.{locks, machines, tasks, clientOf, modeOf, freshLock, lockIn}
-use Rattle.model.specs.WellFormed.{lockFormed, wellFormed}
+use Rattle.model.specs.WellFormed.{wellFormed}
 use Rattle.model.specs.Changes.{refused}
 use Rattle.model.specs.Refusals.{Cause, _when_, first}
 use Rattle.model.specs.Calls.{acquireStep, releaseStep, deliverStep, acquireTests, releaseTests, deliverTests, causes, refusing, settled, unless, acquire}
 use Rattle.model.specs.Calls.{release, deliver, perform, lockOf}
-use Rattle.laws.specs.Lists.{getD-any}
-use Rattle.laws.specs.Formed.{all-locks, lock-formed}
+use Rattle.laws.specs.Formed.{lock-read}
 use Rattle.laws.specs.CallSteps.{stepOf, step-refused}
 use Rattle.laws.specs.Clusters.{perform-formed}
 use Rattle.planning.specs.declared.plan.Plan.{Plan}
@@ -66,13 +65,6 @@ in-range k t cs e =
     let p = all-no MachineRange (leb machines (k .0)) ((TaskRange when leb tasks (t .0)) ∷ cs) e in
     let q = all-no TaskRange (leb tasks (t .0)) cs (p .1) in
     (leb-false machines (k .0) (p .0), leb-false tasks (t .0) (q .0))
-
--- the lock's state as code reads it, with any default
-pub lock-read : (x : Cluster) (l : LockId) (d : LockState) → wellFormed x ≡ true → l .0 < locks → getD (x .locks) (l .0) d ≡ lockIn x l
-lock-read x l d e h = getD-any (x .locks) (l .0) d freshLock (omega (arith, all-locks x e, h))
-
-pub read-formed : (x : Cluster) (l : LockId) (d : LockState) → wellFormed x ≡ true → l .0 < locks → lockFormed (getD (x .locks) (l .0) d) ≡ true
-read-formed x l d e h = rw (lock-read x l d e h) (lock-formed x l e h)
 
 -- ---- a call as data: its tests on the cluster, those on its lock's state, and then its step
 abbrev pub testsOf : Call → LockState → List Cause

@@ -22,7 +22,6 @@ ghost use Rattle.model.specs.WellFormed.{wellFormed};
 ghost use Rattle.model.specs.Calls.{acquire, release, deliver, perform, lockOf};
 
 mod cluster;
-mod draining;
 pub mod lock_calls;
 mod waiting;
 

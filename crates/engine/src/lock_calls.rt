@@ -14,6 +14,7 @@ use model::Status;
 use model::Stepped;
 use model::TASKS;
 use model::TaskId;
+use parts::state::is_holding;
 use parts::state::status_at;
 use parts::wire::is_named;
 use planning::plan::refuse;
@@ -65,16 +66,6 @@ fn is_idle(st: Status) -> bool
         Status::Idle => true,
         Status::Waiting(_) => false,
         Status::Holding(_) => false,
-    }
-}
-
-pub(crate) fn is_holding(st: Status) -> bool
-    ensures { λ r. ⌜ r ≡ isHolding st ⌝ }
-{
-    match st {
-        Status::Idle => false,
-        Status::Waiting(_) => false,
-        Status::Holding(_) => true,
     }
 }
 

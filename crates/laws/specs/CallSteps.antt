@@ -140,6 +140,11 @@ unfolding settled
 settled-here Accepted x l s h f = getD-set-same (x .locks) (l .0) s freshLock h
 settled-here (Refused r) x l s h f = sym (f r refl)
 
+pub settled-answer : (a : Answer) (x : Cluster) (l : LockId) (s : LockState) → settled a x l s .answer ≡ a
+unfolding settled
+settled-answer Accepted x l s = refl
+settled-answer (Refused r) x l s = refl
+
 pub perform-here : (c : Call) (x : Cluster) → wellFormed x ≡ true → lockOf c .0 < locks → perform c x ≡ outcomeOf c x
     → lockIn (perform c x .cluster) (lockOf c) ≡ stepOf c (lockIn x (lockOf c)) .state
 perform-here c x w h e = rw e (settled-here _ x (lockOf c) _ (rw (all-locks x w) h) (step-refused c (lockIn x (lockOf c))))

@@ -17,7 +17,7 @@ use Rattle.model.specs.WellFormed.{shaped, isBlankWaiter, distinct, queueFormed
 use Rattle.model.specs.WellFormed.{isBlankPacket, messageFormed, addressInRange, packetFormed, wireFormed, ownerInRange, lockFormed, wellFormed}
 use Rattle.model.specs.Calls.{packetAt}
 use Rattle.laws.specs.Tests.{and-left, and-right}
-use Rattle.laws.specs.Lists.{all-at, all-getD, all-same, Canonical}
+use Rattle.laws.specs.Lists.{getD-any, all-at, all-getD, all-same, Canonical}
 use Rattle.laws.specs.Shapes.{CanonicalWire, CanonicalQueue}
 
 pub record Ready (s : LockState) : Type 0 where
@@ -183,3 +183,10 @@ all-locks x w = eqb-true _ locks (and-left (eqb (length (x .locks)) locks) _ w)
 pub lock-formed : (x : Cluster) (l : LockId) → wellFormed x ≡ true → l .0 < locks → lockFormed (lockIn x l) ≡ true
 unfolding wellFormed
 lock-formed x l w h = all-at lockFormed (x .locks) (l .0) freshLock (and-right (eqb (length (x .locks)) locks) _ w) (omega (arith, all-locks x w))
+
+-- the lock's state as code reads it, with any default
+pub lock-read : (x : Cluster) (l : LockId) (d : LockState) → wellFormed x ≡ true → l .0 < locks → getD (x .locks) (l .0) d ≡ lockIn x l
+lock-read x l d e h = getD-any (x .locks) (l .0) d freshLock (omega (arith, all-locks x e, h))
+
+pub read-formed : (x : Cluster) (l : LockId) (d : LockState) → wellFormed x ≡ true → l .0 < locks → lockFormed (getD (x .locks) (l .0) d) ≡ true
+read-formed x l d e h = rw (lock-read x l d e h) (lock-formed x l e h)

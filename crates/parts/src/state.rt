@@ -10,6 +10,7 @@ use model::Status;
 ghost use mathlib.Core.Path.{_≡_};
 ghost use lib.ListN.{set, getD};
 ghost use Rattle.model.specs.States.{noAgent, idle};
+ghost use Rattle.model.specs.Calls.{isHolding};
 
 pub fn agent_at(a: [AgentSlot; MACHINES], k: MachineId) -> AgentSlot
     ensures { λ r. ⌜ r ≡ getD a (k .0) noAgent ⌝ }
@@ -50,4 +51,14 @@ pub fn put_status(a: [ClientState; CLIENTS], c: ClientId, st: Status) -> [Client
         b[i] = ClientState { status: st };
     }
     b
+}
+
+pub fn is_holding(st: Status) -> bool
+    ensures { λ r. ⌜ r ≡ isHolding st ⌝ }
+{
+    match st {
+        Status::Idle => false,
+        Status::Waiting(_) => false,
+        Status::Holding(_) => true,
+    }
 }

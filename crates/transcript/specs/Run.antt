@@ -26,11 +26,11 @@ use Rattle.model.specs.Transcripts.{readRecord, replayed, replayFrom, replayUnl
 use Rattle.model.specs.Listing.{kindOf, rowOf, header, lineOf, refusedLine, linesFrom, linesUnless, listing, Filled, put}
 use Rattle.laws.specs.Records.{record-ends, at-record, at-bad, at-end}
 use Rattle.laws.specs.Shapes.{length-packets}
-use Rattle.laws.specs.Formed.{all-locks, lock-formed, ready}
+use Rattle.laws.specs.Formed.{all-locks, lock-formed, lock-read, read-formed, ready}
 use Rattle.laws.specs.Clusters.{perform-formed}
 use Rattle.planning.specs.declared.plan.Plan.{Plan}
 use Rattle.planning.specs.Plans.{Plans, carriedOut}
-use Rattle.engine.specs.LockCalls.{callOn, lock-read, read-formed, perform-range, perform-accepts, perform-refuses}
+use Rattle.engine.specs.LockCalls.{callOn, perform-range, perform-accepts, perform-refuses}
 use Rattle.listing.specs.Put.{put-then}
 
 -- ---- What a record's call c makes of the cluster y: its answer a, the cluster z, and w packets on its lock's wire.

@@ -1,6 +1,5 @@
 // The drain of one lock's state. Each phase makes its steps in a loop and only then hands over to the other: a call for each step
 // would not fit the stack.
-use crate::lock_calls::is_holding;
 use formed::well_formed;
 use model::ALLOWANCE;
 use model::Answer;
@@ -13,6 +12,7 @@ use model::LOCKS;
 use model::LockId;
 use model::LockState;
 use model::Refusal;
+use parts::state::is_holding;
 use planning::plan::carry_out;
 use planning::steps::plan_deliver;
 use planning::steps::plan_release;
@@ -22,8 +22,8 @@ ghost use Prim.Native.Nat.{_<_};
 ghost use Rattle.model.specs.States.{locks};
 ghost use Rattle.model.specs.WellFormed.{wellFormed};
 ghost use Rattle.model.specs.Drain.{drainRefused, drain};
-ghost use Rattle.engine.specs.Names.{LockId};
-ghost use Rattle.engine.specs.DrainState.{Open, Stepping, endedWith, within, drainOn, holderFrom};
+ghost use Rattle.draining.specs.Names.{LockId};
+ghost use Rattle.draining.specs.DrainState.{Open, Stepping, endedWith, within, drainOn, holderFrom};
 
 // How far the drain of one lock's state came: the steps that are left and, where it has ended, its answer.
 pub(crate) struct Draining {

@@ -1,6 +1,6 @@
-use Rattle.engine.proofs.Base.{_≡_, sym, _∙_, _-_, _≤_, clients, idle, drop, needs, holderFrom, holder-here, holder-next, holder-end}
-use Rattle.engine.proofs.draining.first_holder.Statement.{statement}
-use Rattle.engine.proofs.draining.first_holder.Tie as tie
+use Rattle.draining.proofs.Base.{_≡_, sym, _∙_, _-_, _≤_, clients, idle, drop, needs, holderFrom, holder-here, holder-next, holder-end}
+use Rattle.draining.proofs.first_holder.Statement.{statement}
+use Rattle.draining.proofs.first_holder.Tie as tie
 
 pub first-holder-spec : {M : Type 1} → statement M
 first-holder-spec = tie.close (tie.spec (λ a _ j. (holderFrom j (drop j a) ≡ holderFrom 0 a) × (j ≤ clients)) (λ _ _ j. clients - j) (search needs)

@@ -1,6 +1,6 @@
-use Rattle.engine.proofs.Base.{_∙_, refl, arith, needs, read-formed, made, drain-ends, drain-stops}
-use Rattle.engine.proofs.draining.drain_lock.Statement.{statement}
-use Rattle.engine.proofs.draining.drain_lock.Tie as tie
+use Rattle.draining.proofs.Base.{_∙_, refl, arith, needs, read-formed, made, drain-ends, drain-stops}
+use Rattle.draining.proofs.drain_lock.Statement.{statement}
+use Rattle.draining.proofs.drain_lock.Tie as tie
 
 pub drain-lock-spec : {M : Type 1} → statement M
 drain-lock-spec = tie.close (tie.spec (search needs) (search needs) (search needs)

@@ -1,7 +1,7 @@
-use Rattle.engine.proofs.Base.{true≢false, _<_, arith, needs, ready, Draining, Since, along-start, since-more, since-next, since-end}
-use Rattle.engine.proofs.Base.{delivery-planned, within-made, progress-made, progress-stops}
-use Rattle.engine.proofs.draining.deliver_all.Statement.{statement}
-use Rattle.engine.proofs.draining.deliver_all.Tie as tie
+use Rattle.draining.proofs.Base.{true≢false, _<_, arith, needs, ready, Draining, Since, along-start, since-more, since-next, since-end}
+use Rattle.draining.proofs.Base.{delivery-planned, within-made, progress-made, progress-stops}
+use Rattle.draining.proofs.deliver_all.Statement.{statement}
+use Rattle.draining.proofs.deliver_all.Tie as tie
 
 abbrev Busy : Draining → Type 0
 Busy d = 0 < d .state .wire .len

@@ -1,12 +1,12 @@
-use Rattle.engine.proofs.Base.{_∙_, arith, needs, still-open}
-use Rattle.engine.proofs.draining.deliver_all.Reads as deliver-all
-use Rattle.engine.proofs.draining.release_all.Reads as release-all
-use Rattle.engine.proofs.draining.deliver_phase.Reads as deliver-phase
-use Rattle.engine.proofs.draining.release_phase.Reads as release-phase
-use Rattle.engine.proofs.draining.+deliver_phase+release_phase.Lts-deliver_phase as deliver-phase-lts
-use Rattle.engine.proofs.draining.+deliver_phase+release_phase.Lts-release_phase as release-phase-lts
-use Rattle.engine.proofs.draining.+deliver_phase+release_phase.{statement}
-use Rattle.engine.proofs.draining.+deliver_phase+release_phase.Tie.{close}
+use Rattle.draining.proofs.Base.{_∙_, arith, needs, still-open}
+use Rattle.draining.proofs.deliver_all.Reads as deliver-all
+use Rattle.draining.proofs.release_all.Reads as release-all
+use Rattle.draining.proofs.deliver_phase.Reads as deliver-phase
+use Rattle.draining.proofs.release_phase.Reads as release-phase
+use Rattle.draining.proofs.+deliver_phase+release_phase.Lts-deliver_phase as deliver-phase-lts
+use Rattle.draining.proofs.+deliver_phase+release_phase.Lts-release_phase as release-phase-lts
+use Rattle.draining.proofs.+deliver_phase+release_phase.{statement}
+use Rattle.draining.proofs.+deliver_phase+release_phase.Tie.{close}
 
 pub +deliver-phase+release-phase-spec : {M : Type 1} → statement M
 +deliver-phase+release-phase-spec = close (λ κs a. a .0 .left) (λ κs a. a .0 .left)

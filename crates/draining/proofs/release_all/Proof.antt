@@ -1,7 +1,7 @@
-use Rattle.engine.proofs.Base.{_≡_, true≢false, arith, needs, ready, Draining, Since, along-start, since-more, since-next, since-end}
-use Rattle.engine.proofs.Base.{progress-quiescent, release-planned, none-holds, within-made, progress-made, progress-stops}
-use Rattle.engine.proofs.draining.release_all.Statement.{statement}
-use Rattle.engine.proofs.draining.release_all.Tie as tie
+use Rattle.draining.proofs.Base.{_≡_, true≢false, arith, needs, ready, Draining, Since, along-start, since-more, since-next, since-end}
+use Rattle.draining.proofs.Base.{progress-quiescent, release-planned, none-holds, within-made, progress-made, progress-stops}
+use Rattle.draining.proofs.release_all.Statement.{statement}
+use Rattle.draining.proofs.release_all.Tie as tie
 
 abbrev Quiet : Draining → Type 0
 Quiet d = d .state .wire .len ≡ 0

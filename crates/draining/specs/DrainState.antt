@@ -10,8 +10,8 @@ use lib.Seq.{set-set, set-getD, getD-set-same, drop-cons}
 use lib.Dec.{ltb}
 use borrow.Author.Tests.{lt-leb, le-leb, lt-ltb, le-ltb}
 use Rattle.model.specs.Lists.{pick}
-use Rattle.engine.specs.Names.{LockId, Packet, ClientState, LockState, Cluster, Call, ReleaseCall, DeliverCall, Refusal, Malformed, LockRange}
-use Rattle.engine.specs.Names.{NotQuiescent, Answer, Accepted, Refused, Stepped}
+use Rattle.draining.specs.Names.{LockId, Packet, ClientState, LockState, Cluster, Call, ReleaseCall, DeliverCall, Refusal, Malformed, LockRange}
+use Rattle.draining.specs.Names.{NotQuiescent, Answer, Accepted, Refused, Stepped}
 use Rattle.model.specs.States.{locks, tasks, clients, packets, lockIn, freshLock}
 use Rattle.model.specs.WellFormed.{lockFormed, wellFormed}
 use Rattle.model.specs.Refusals.{number, first}
@@ -21,14 +21,14 @@ use Rattle.model.specs.Drain.{drainUnless, drain}
 use Rattle.laws.specs.Tests.{bool-cases, pick-yes, pick-no}
 use Rattle.laws.specs.Formed.{all-locks, parts, ready}
 use Rattle.laws.specs.Shapes.{length-packets}
-use Rattle.laws.specs.CallSteps.{stepOf}
+use Rattle.laws.specs.CallSteps.{stepOf, settled-answer}
 use Rattle.laws.specs.Clusters.{perform-formed}
 use Rattle.laws.specs.FormedStep.{release-formed, deliver-formed}
 use Rattle.laws.specs.Next.{next-is, Goes, goes}
 use Rattle.planning.specs.declared.plan.Plan.{Plan}
 use Rattle.planning.specs.Plans.{Plans, carriedOut, plan-accepts, plan-refuses}
-use Rattle.engine.specs.LockCalls.{lock-read}
-use Rattle.engine.specs.declared.draining.Draining.{Draining}
+use Rattle.laws.specs.Formed.{lock-read}
+use Rattle.draining.specs.declared.Draining.{Draining}
 
 abbrev pub endedWith : Answer → Draining → Draining
 endedWith a d = record { ended = true; answer = a; left = d .left; state = d .state }
@@ -88,12 +88,7 @@ agree-here left x l a = record { answer = refl; count = omega arith; cluster = r
 -- the next call is the lock's step, put in its place
 module _ (l : LockId) (x : Cluster) (c : Call) (g : Goes l x c) where
   call-answer : perform c x .answer ≡ stepOf c (lockIn x l) .answer
-  unfolding settled
-  call-answer = rw (g .step, g .lock) (go (stepOf c (lockIn x l) .answer))
-    where
-      go : (a : Answer) → settled a x l (stepOf c (lockIn x l) .state) .answer ≡ a
-      go Accepted = refl
-      go (Refused r) = refl
+  call-answer = rw (g .step, g .lock) (settled-answer (stepOf c (lockIn x l) .answer) x l (stepOf c (lockIn x l) .state))
 
   call-cluster : stepOf c (lockIn x l) .answer ≡ Accepted → perform c x .cluster ≡ placed x l (stepOf c (lockIn x l) .state)
   unfolding settled

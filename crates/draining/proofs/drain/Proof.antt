@@ -1,6 +1,6 @@
-use Rattle.engine.proofs.Base.{sym, _∙_, needs, drain-malformed, drain-range}
-use Rattle.engine.proofs.draining.drain.Statement.{statement}
-use Rattle.engine.proofs.draining.drain.Tie as tie
+use Rattle.draining.proofs.Base.{sym, _∙_, needs, drain-malformed, drain-range}
+use Rattle.draining.proofs.drain.Statement.{statement}
+use Rattle.draining.proofs.drain.Tie as tie
 
 pub drain-spec : {M : Type 1} → statement M
 drain-spec = tie.close (tie.spec (search needs) (search needs)

@@ -1,0 +1,5 @@
+-- The model's declared types and their constructors: a facade passes on no `pub use`, so each crate has this list.
+pub use Rattle.model.specs.declared.{LockId.LockId, Packet.Packet, ClientState.ClientState, LockState.LockState, Cluster.Cluster}
+pub use Rattle.model.specs.declared.{Call.Call, Call.the-variants.{Release as ReleaseCall, Deliver as DeliverCall}}
+pub use Rattle.model.specs.declared.{Refusal.Refusal, Refusal.the-variants.{Malformed, LockRange, NotQuiescent}}
+pub use Rattle.model.specs.declared.{Answer.Answer, Answer.the-variants.{Accepted, Refused}, Stepped.Stepped}

@@ -1,7 +1,0 @@
-use Rattle.engine.proofs.Base.{refl, within, within-some}
-use Rattle.engine.proofs.draining.step_answer.Statement.{statement}
-use Rattle.engine.proofs.draining.step_answer.Tie as tie
-
-pub step-answer-spec : {M : Type 1} → statement M
-unfolding within
-step-answer-spec = tie.close (tie.spec (λ c. rw (c .if1 .taken) refl) (λ c. within-some _ _ (c .if1 .left)))
