@@ -1,5 +1,5 @@
 """What each rule of docs/protocol.md did in a step: its sentences, from the packet, what was sent, and the states before and after."""
-from desk.words import MODES, client, packet
+from desk.words import EXCLUSIVE, MODES, client, clients, packet
 
 
 def at(step, number=0):
@@ -149,7 +149,23 @@ def grant_at_machine(step):
     step.need(lists(agent_after(step), step.client))
     told = [f"{client(sent['client'])} joins the holders from the queue: {packet(sent)}, goes to the decider, {at(step, number)}."
             for number, sent in enumerate(step.sent)]
-    return [f"The agent is installed on machine {step.machine}, {MODES[agent_after(step)['mode']]}, and lists {client(step.client)}.", *told]
+    return [f"The agent is installed on machine {step.machine}, {MODES[agent_after(step)['mode']]}, and lists {client(step.client)}.", *told, *stays(step)]
+
+
+def stays(step):
+    """Who stays in the queue of an agent that is installed: with a shared one, the first who asks exclusively and whoever is behind it."""
+    staying = agent_after(step)["queue"]
+    left = [{"client": sent["client"], "mode": sent["mode"]} for sent in step.sent]
+    step.need(left + staying == step.packet["agent"]["queue"])
+    if agent_after(step)["mode"] == EXCLUSIVE:
+        step.need(not left)
+        return []
+    step.need(all(waiter["mode"] != EXCLUSIVE for waiter in left))
+    if not staying:
+        return []
+    step.need(staying[0]["mode"] == EXCLUSIVE)
+    behind = clients(waiter["client"] for waiter in staying[1:])
+    return [f"{client(staying[0]['client'])} asks exclusively: it stays in the queue" + (f", and so does whoever is behind it: {behind}." if behind else ".")]
 
 
 def brought_back(step, more=""):

@@ -1,6 +1,7 @@
 """The parts of a lock in the words of docs/protocol.md."""
 
-MODES = {2: "exclusive", 3: "shared"}
+EXCLUSIVE = 2
+MODES = {EXCLUSIVE: "exclusive", 3: "shared"}
 STATUSES = {"idle": "is idle", "waiting": "waits", "holding": "holds"}
 UNDER_WAY = {"ACQUIRE": "its ACQUIRE is", "GRANT": "its GRANT is", "rejected GRANT": "its GRANT was rejected and is"}
 

@@ -1,4 +1,4 @@
-//! Delivery of a packet (document 01, 'At the decider' and 'At a machine').
+//! Delivery of a packet (document 01, 'At the decider' and 'At a machine'; document 02, §3).
 //!
 //! A delivery first chooses its action, which tests refusal 9, then counts the
 //! packets that the action sends, which tests refusal 10, and only then
@@ -87,7 +87,7 @@ impl LockState {
             | Action::ConfirmHolder(_)
             | Action::Enqueue(_)
             | Action::RestoreAgent(_) => 0,
-            Action::InstallAgent(_) => packet.shared_waiters(),
+            Action::InstallAgent(_) => packet.leaving_waiters(),
             Action::RemoveHolder(machine) => match packet.message.client() {
                 Some(client) => self.sent_by_removal(machine, client),
                 None => 0,
@@ -243,13 +243,12 @@ impl LockState {
         agent.mode = mode;
         agent.holders.insert(client);
         if mode == Mode::Shared {
-            // Readers share, so all that wait get in together; writers wait on
-            // (document 01, 'At a machine').
-            for waiter in agent.queue.iter().filter(|w| w.mode == Mode::Shared) {
+            // Readers share, but none of them passes a writer that came earlier (document 02, §3).
+            let readers = agent.readers_in_front();
+            for waiter in agent.queue.drain(..readers) {
                 agent.holders.insert(waiter.client);
                 self.send_plain_grant(waiter.client, waiter.mode);
             }
-            agent.queue.retain(|waiter| waiter.mode != Mode::Shared);
         }
         self.agents[machine.index()] = Some(agent);
     }
@@ -312,14 +311,23 @@ impl Decider {
 
 impl Packet {
     /// How many waiters a shared GRANT with agent grants as well.
-    fn shared_waiters(&self) -> usize {
+    fn leaving_waiters(&self) -> usize {
         let is_shared = |mode: Mode| mode == Mode::Shared;
         match (self.message, &self.agent) {
             (Message::Grant { mode, .. }, Some(agent)) if is_shared(mode) => {
-                agent.queue.iter().filter(|w| is_shared(w.mode)).count()
+                agent.readers_in_front()
             }
             _ => 0,
         }
+    }
+}
+
+impl Agent {
+    /// How many shared waiters stand ahead of the first exclusive one.
+    fn readers_in_front(&self) -> usize {
+        let mut queue = self.queue.iter();
+        let writer = queue.position(|waiter| waiter.mode == Mode::Exclusive);
+        writer.unwrap_or(self.queue.len())
     }
 }
 

@@ -11,6 +11,7 @@ pub mod digest;
 mod drain;
 pub mod generator;
 pub mod inspect;
+pub mod installations;
 pub mod model;
 pub mod random_calls;
 pub mod random_runs;

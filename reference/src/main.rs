@@ -128,6 +128,11 @@ fn counts(out: &mut dyn Write) -> io::Result<()> {
         write!(out, "most marked {} ", tally.most_marked)?;
         writeln!(out, "most packets {}", tally.most_packets)?;
         writeln!(out, "{name} tested waits {}", tally.tested_waits)?;
+        let (tested, kept) = (tally.tested_installations, tally.readers_kept);
+        writeln!(
+            out,
+            "{name} tested installations {tested} readers kept {kept}"
+        )?;
     }
     Ok(())
 }

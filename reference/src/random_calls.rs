@@ -1,6 +1,7 @@
 //! How a step of a random run chooses its call (docs/random-runs.md).
 
 use crate::answer::{Outcome, Refusal};
+use crate::installations::Installation;
 use crate::model::{
     Address, ClientId, ClientStatus, Cluster, LockId, LockState, MachineId, Message, Mode, Packet,
     TaskId, LOCKS,
@@ -205,6 +206,15 @@ impl Call {
             ACQUIRE => cluster.acquire(self.lock, self.machine, self.task, self.mode),
             RELEASE => cluster.release(self.lock, self.machine, self.task),
             _ => cluster.deliver(self.lock, self.index),
+        }
+    }
+
+    /// What the call is to install; no kind but a delivery brings an agent.
+    pub fn installation(&self, cluster: &Cluster) -> Option<Installation> {
+        let state = cluster.locks.get(self.lock.index())?;
+        match self.kind {
+            DELIVER => Installation::at(state, usize::from(self.index)),
+            _ => None,
         }
     }
 

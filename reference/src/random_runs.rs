@@ -3,10 +3,11 @@
 use crate::answer::{answer_number, Outcome};
 use crate::digest::Digest;
 use crate::generator::Generator;
-use crate::model::{ClientId, Cluster, LockId};
+use crate::installations::Installation;
+use crate::model::{ClientId, Cluster, LockId, LockState};
 use crate::random_calls::{Call, Profile, DRAIN, REASON};
 use crate::reasons::reason_numbers;
-use crate::report::{Observation, Report};
+use crate::report::{Observation, Report, Tally};
 use std::io;
 
 pub const FIRST_RUN: u64 = 1;
@@ -63,7 +64,7 @@ impl Run {
         }
     }
 
-    /// The same run with every step tested; hand-made states need not pass these tests.
+    /// The same run with the state after every step tested; hand-made ones need not pass these tests.
     pub fn tested(self) -> Self {
         let is_tested = true;
         Run { is_tested, ..self }
@@ -95,6 +96,7 @@ impl Run {
             self.drain(Call { kind, ..call }, report)?;
         }
         let before = Observation::of(&self.cluster, call.lock);
+        let installation = call.installation(&self.cluster);
         let outcome = call.perform(&mut self.cluster);
         let after = Observation::of(&self.cluster, call.lock);
         report.tally.compare(before, after);
@@ -107,7 +109,7 @@ impl Run {
             self.digest.cluster(&self.cluster);
         }
         self.step_line(call, answer, 0, &self.cluster, &asked, report)?;
-        self.test_call(call, &outcome, report)
+        self.test_call(call, &outcome, installation, report)
     }
 
     /// Asks why the chosen client waits; the numbers go into the digest and into the line.
@@ -128,12 +130,16 @@ impl Run {
     fn drain(&mut self, call: Call, report: &mut Report) -> io::Result<()> {
         let mut drained = self.cluster.clone();
         let mut tested = Ok(());
+        let state = self.cluster.locks.get(call.lock.index());
+        // Of the packets a drain delivers only the oldest (document 01, 'Draining a lock').
+        let mut next = state.and_then(|state| Installation::at(state, 0));
         let outcome = drained.drain_with(call.lock, |number, state| {
             // A drain cannot be stopped from here; after a failure it goes on untested.
-            if self.is_tested && tested.is_ok() {
-                let result = report.tally.test_state(state);
+            if tested.is_ok() {
+                let result = self.test_drain_step(next.take(), state, &mut report.tally);
                 tested = result.map_err(|broken| format!("drain step {number}: {broken}"));
             }
+            next = Installation::at(state, 0);
         });
         if self.is_tested {
             // The last step has tested the state already.
@@ -153,12 +159,34 @@ impl Run {
         Ok(())
     }
 
-    fn test_call(&self, call: Call, outcome: &Outcome, report: &mut Report) -> io::Result<()> {
-        if !self.is_tested {
-            return Ok(());
+    fn test_drain_step(
+        &self,
+        installation: Option<Installation>,
+        state: &LockState,
+        tally: &mut Tally,
+    ) -> Result<(), String> {
+        tally.test_installation(installation, Some(state))?;
+        if self.is_tested {
+            tally.test_state(state)?;
         }
+        Ok(())
+    }
+
+    fn test_call(
+        &self,
+        call: Call,
+        outcome: &Outcome,
+        installation: Option<Installation>,
+        report: &mut Report,
+    ) -> io::Result<()> {
         let state = self.cluster.locks.get(call.lock.index());
-        let tested = report.tally.test_call(call.kind, outcome, state);
+        let tally = &mut report.tally;
+        // A refused call has installed nothing.
+        let installation = installation.filter(|_| outcome.is_ok());
+        let mut tested = tally.test_installation(installation, state);
+        if self.is_tested {
+            tested = tested.and_then(|()| tally.test_call(call.kind, outcome, state));
+        }
         self.stop_if_broken(call.lock, tested)
     }
 

@@ -3,10 +3,11 @@
 use crate::answer::answer_number;
 use crate::digest::Digest;
 use crate::generator::Generator;
+use crate::installations::Installation;
 use crate::model::Cluster;
 use crate::random_calls::{Call, Profile, ACQUIRE, RELEASE};
 use crate::report::Report;
-use crate::transcript::{listing, TRANSCRIPT_LIMIT};
+use crate::transcript::{listing, Record, TRANSCRIPT_LIMIT};
 use std::io;
 
 pub const FIRST_TRANSCRIPT: u64 = 1;
@@ -45,20 +46,45 @@ pub fn random_transcript(seed: u64, report: &mut Report) -> io::Result<()> {
 fn count_answers(seed: u64, bytes: &[u8], report: &mut Report) -> io::Result<()> {
     let tally = &mut report.tally;
     let mut tested = Ok(());
+    let mut before = Cluster::new();
     let whole = Cluster::new().run_transcript_with(bytes, |number, record, outcome, cluster| {
         let (kind, lock) = (record.kind() as u8, record.lock());
         tally.count(kind, answer_number(&outcome));
         // A transcript cannot be stopped from here; after a failure it goes on untested.
         if tested.is_ok() {
-            let result = tally.test_call(kind, &outcome, cluster.locks.get(lock.index()));
+            let state = cluster.locks.get(lock.index());
+            // A refused record has installed nothing.
+            let installation = installation(record, &before).filter(|_| outcome.is_ok());
+            let result = tally.test_installation(installation, state);
+            let result = result.and_then(|()| tally.test_call(kind, &outcome, state));
             tested = result.map_err(|broken| {
                 let place = format!("transcript {seed} record {number} lock {}", lock.0);
                 io::Error::other(format!("{place}: {broken}"))
             });
         }
+        follow(record, cluster, &mut before);
     });
     tally.count(0, answer_number(&whole.answer));
     tested
+}
+
+/// What a record is to install, on the cluster before it.
+fn installation(record: &Record, before: &Cluster) -> Option<Installation> {
+    match *record {
+        Record::Deliver(lock, index) => {
+            let state = before.locks.get(lock.index())?;
+            Installation::at(state, usize::from(index))
+        }
+        Record::Acquire(..) | Record::Release(..) => None,
+    }
+}
+
+/// Brings the cluster before a record to the one after it; only the record's lock has changed.
+fn follow(record: &Record, after: &Cluster, before: &mut Cluster) {
+    let lock = record.lock().index();
+    if let Some(state) = before.locks.get_mut(lock) {
+        state.clone_from(&after.locks[lock]);
+    }
 }
 
 /// The bytes of the transcript with this seed.

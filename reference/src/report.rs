@@ -2,6 +2,7 @@
 
 use crate::answer::Refusal;
 use crate::counts::Counts;
+use crate::installations::Installation;
 use crate::model::{Cluster, LockId, LockState, WIRE_CAPACITY};
 use crate::reasons::{Reason, REASON_KINDS};
 use std::io::Write;
@@ -35,6 +36,9 @@ pub struct Tally {
     pub several_reasons: u64,
     /// How many waiting clients there were in the tested states.
     pub tested_waits: u64,
+    /// How many installations were tested, and at how many a reader stayed in the queue of a shared agent.
+    pub tested_installations: u64,
+    pub readers_kept: u64,
 }
 
 impl Tally {
@@ -85,6 +89,19 @@ impl Tally {
             self.test_state(state)?;
         }
         check_answer(kind, outcome)
+    }
+
+    /// Tests what an accepted delivery has installed; hand-made states pass this test too.
+    pub fn test_installation(
+        &mut self,
+        installation: Option<Installation>,
+        after: Option<&LockState>,
+    ) -> Result<(), String> {
+        if let (Some(installation), Some(after)) = (installation, after) {
+            self.tested_installations += 1;
+            self.readers_kept += u64::from(installation.check(after)?);
+        }
+        Ok(())
     }
 }
 

@@ -400,13 +400,13 @@ const AWAY_FROM_ZERO_LINES: &str = r#"
  "agent":{"mode":2,"holders":[],
  "queue":[{"client":14,"mode":3},{"client":15,"mode":2}],"incarnation":0}}]},
  "counts":{"agents":1,"marked":0}}
-{"end":"end","answer":0,"records":9,"drains":[{"lock":0,"answer":0,"count":26},REST]}
+{"end":"end","answer":0,"records":9,"drains":[{"lock":0,"answer":0,"count":24},REST]}
 "#;
 
 /// 3/0 holds, its neighbours queue on machine 3, 1/0 and 2/0 ask; then the agent leaves for 3/1 with the other two.
-/// The drain sends both ACQUIREs on and back (4 steps), installs the agent (2), queues 1/0 and 2/0 (4), releases 3/1 and
-/// installs the agent for 3/2, with a GRANT for 1/0 (5), releases 1/0 at the agent (3), then 3/2, 3/3 and 2/0 in turn,
-/// with two steps to bring each next GRANT (3, 3, 1), and ends with the FREE.
+/// The drain sends both ACQUIREs on and back (4 steps), installs the agent (2), queues 1/0 and 2/0 (4). No reader stands
+/// ahead of a writer then, so 3/1, 3/2, 3/3, 1/0 and 2/0 are released in turn, with two steps to bring each next GRANT
+/// (3, 3, 3, 3, 1), and the FREE ends it.
 #[test]
 fn reasons_away_from_zero() {
     let bytes = [

@@ -184,35 +184,24 @@ fn queue_stands_on_a_machine_and_in_a_packet() {
     assert_reasons(&cluster, &rest);
 }
 
-/// D12: a holds, c has a GRANT on the wire, b waits behind nobody on a's machine.
+/// D12: a holds, b waits behind nobody on a's machine, c behind b. Then the agent goes to b with c, and to c alone.
 #[test]
 fn d12_reasons_of_all_three() {
-    let mut cluster = Cluster::new();
-    accepted(&[
-        acquire(&mut cluster, 0, 0, EXCLUSIVE),
-        deliver(&mut cluster, 0),
-        deliver(&mut cluster, 0),
-    ]);
-    for (machine, mode) in [(1, SHARED), (2, EXCLUSIVE), (3, SHARED)] {
-        accepted(&[
-            acquire(&mut cluster, machine, 0, mode),
-            deliver(&mut cluster, 0),
-            deliver(&mut cluster, 0),
-        ]);
-    }
     let (a, b, c) = (on_machine(0, 0), on_machine(0, 1), on_machine(0, 2));
-    assert_reasons(&cluster, &[(4, a), (8, b), (12, c)]);
-    accepted(&[
-        release(&mut cluster, 0, 0),
-        deliver(&mut cluster, 0),
-        deliver(&mut cluster, 0),
-    ]);
-    let granted = (12, Reason::Grant { index: 0 });
-    assert_reasons(&cluster, &[(8, on_machine(1, 0)), granted]);
+    assert_reasons(&d12_queue(), &[(4, a), (8, b), (12, c)]);
+    let mut cluster = d12();
+    assert_reasons(&cluster, &[(8, on_machine(1, 0)), (12, on_machine(1, 1))]);
+    accepted(&[release(&mut cluster, 1, 0)]);
+    let granted = Reason::Grant { index: 0 };
+    assert_reasons(&cluster, &[(8, granted), (12, in_packet(0, 0))]);
     accepted(&[deliver(&mut cluster, 0)]);
-    assert_reasons(&cluster, &[(8, on_machine(1, 0)), granted]);
+    assert_reasons(&cluster, &[(8, granted), (12, in_packet(0, 0))]);
     accepted(&[deliver(&mut cluster, 0)]);
-    assert_reasons(&cluster, &[(8, on_machine(1, 0))]);
+    assert_reasons(&cluster, &[(12, on_machine(2, 0))]);
+    accepted(&[release(&mut cluster, 2, 0)]);
+    assert_reasons(&cluster, &[(12, granted)]);
+    accepted(&[deliver(&mut cluster, 0), deliver(&mut cluster, 0)]);
+    assert_reasons(&cluster, &[]);
 }
 
 #[test]

@@ -187,6 +187,27 @@ fn shared_waiters_need_room() {
     assert!(agent(&fits, 0).queue.is_empty());
 }
 
+/// With 32 other packets there is room for one GRANT; who waits behind a writer is sent none (document 02, §3).
+#[test]
+fn waiters_behind_a_writer_need_no_room() {
+    let cluster = |queue: [(u8, Mode); 3]| {
+        let mut agent = Agent::new(Mode::Exclusive);
+        agent.queue = waiters(&queue).into();
+        let message = grant(ClientId(0), Mode::Shared);
+        let mut packets = vec![Packet::with_agent(message, to(0), agent)];
+        packets.resize(33, plain(release_of(0), Address::Decider));
+        with_packets(owned(Mode::Shared), packets)
+    };
+    let (reader, other, writer) = ((8, Mode::Shared), (12, Mode::Shared), (4, Mode::Exclusive));
+    refuses_delivery(cluster([reader, other, writer]), 10);
+    let mut one_leaves = cluster([reader, writer, other]);
+    assert_eq!(deliver(&mut one_leaves, 0), 0);
+    assert_eq!(lock(&one_leaves).wire.len(), 33);
+    let mut none_leaves = cluster([writer, reader, other]);
+    assert_eq!(deliver(&mut none_leaves, 0), 0);
+    assert_eq!(lock(&none_leaves).wire.len(), 32);
+}
+
 #[test]
 fn cannot_be_placed_comes_before_a_full_wire() {
     let agent = queue_agent(Mode::Exclusive, 16, Mode::Shared);

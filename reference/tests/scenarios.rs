@@ -5,7 +5,7 @@ mod common;
 use common::*;
 use reference::model::{
     Address, ClientStatus, Cluster, Decider, LockId, MachineId, Message, Mode, Owner, Packet,
-    TaskId, Waiter,
+    TaskId,
 };
 
 fn owned(mode: Mode, machine: u8, incarnation: u8) -> Decider {
@@ -136,39 +136,63 @@ fn d11_ranges() {
     assert_eq!([deliver(&mut cluster, 2), deliver(&mut cluster, 1)], [8, 0]);
 }
 
+/// Amended by document 02, §3: c stays behind b.
 #[test]
-fn d12_shared_waiters_are_granted_together() {
-    let mut cluster = Cluster::new();
-    accepted(&[
-        acquire(&mut cluster, 0, 0, EXCLUSIVE),
-        deliver(&mut cluster, 0),
-        deliver(&mut cluster, 0),
-    ]);
-    for (machine, mode) in [(1, SHARED), (2, EXCLUSIVE), (3, SHARED)] {
-        accepted(&[
-            acquire(&mut cluster, machine, 0, mode),
-            deliver(&mut cluster, 0),
-            deliver(&mut cluster, 0),
-        ]);
-    }
-    accepted(&[
-        release(&mut cluster, 0, 0),
-        deliver(&mut cluster, 0),
-        deliver(&mut cluster, 0),
-    ]);
+fn d12_reader_waits_behind_the_writer() {
+    let cluster = d12();
     let (a, b, c) = (client(1, 0), client(2, 0), client(3, 0));
-    let mode = Mode::Exclusive;
-    assert_eq!(agent(&cluster, 1).queue, [Waiter { client: b, mode }]);
-    assert_eq!(holders(agent(&cluster, 1)), [a.0, c.0]);
-    let expected = [plain(grant(c, Mode::Shared), Address::Decider)];
-    assert_eq!(lock(&cluster).wire, expected);
+    let expected = waiters(&[(b.0, Mode::Exclusive), (c.0, Mode::Shared)]);
+    assert_eq!(agent(&cluster, 1).queue, expected);
+    assert_eq!(agent(&cluster, 1).mode, Mode::Shared);
+    assert_eq!(holders(agent(&cluster, 1)), [a.0]);
+    assert_eq!(lock(&cluster).wire, []);
+    assert_eq!(lock(&cluster).decider, owned(Mode::Shared, 1, 0));
     assert_eq!(status(&cluster, 1, 0), ClientStatus::Holding(Mode::Shared));
     assert_eq!(
         status(&cluster, 2, 0),
         ClientStatus::Waiting(Mode::Exclusive)
     );
-    accepted(&[deliver(&mut cluster, 0), deliver(&mut cluster, 0)]);
+    assert_eq!(status(&cluster, 3, 0), ClientStatus::Waiting(Mode::Shared));
+}
+
+/// The agent goes from a to b with c in its queue, and then to c.
+#[test]
+fn d12_writer_is_served_before_the_reader_behind_it() {
+    let mut cluster = d12();
+    accepted(&[
+        release(&mut cluster, 1, 0),
+        deliver(&mut cluster, 0),
+        deliver(&mut cluster, 0),
+    ]);
+    let (b, c) = (client(2, 0), client(3, 0));
+    assert_eq!(lock(&cluster).decider, owned(Mode::Exclusive, 2, 0));
+    assert_eq!(holders(agent(&cluster, 2)), [b.0]);
+    assert_eq!(agent(&cluster, 2).queue, waiters(&[(c.0, Mode::Shared)]));
+    assert_eq!(lock(&cluster).wire, []);
+    assert_eq!(
+        status(&cluster, 2, 0),
+        ClientStatus::Holding(Mode::Exclusive)
+    );
+    assert_eq!(status(&cluster, 3, 0), ClientStatus::Waiting(Mode::Shared));
+    accepted(&[
+        release(&mut cluster, 2, 0),
+        deliver(&mut cluster, 0),
+        deliver(&mut cluster, 0),
+    ]);
+    assert_eq!(lock(&cluster).decider, owned(Mode::Shared, 3, 0));
+    assert_eq!(holders(agent(&cluster, 3)), [c.0]);
+    assert!(agent(&cluster, 3).queue.is_empty());
     assert_eq!(status(&cluster, 3, 0), ClientStatus::Holding(Mode::Shared));
+}
+
+/// Each release is followed by two steps for the next GRANT, the last one by the FREE.
+#[test]
+fn d12_drain_serves_each_waiter_once() {
+    let mut cluster = d12();
+    let (b, c) = (client(2, 0).0, client(3, 0).0);
+    assert_eq!(shown_by_draining(&mut cluster), (vec![b, c], 8));
+    assert_eq!(cluster, Cluster::new());
+    assert_eq!(d12().drain(LOCK), Ok(8));
 }
 
 #[test]

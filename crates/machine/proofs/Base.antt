@@ -4,6 +4,7 @@ pub use Prim.Native.Nat.{_+_, _-_, _≤_}
 pub use native.Mathlib.Omega.{arith}
 pub use lib.ListN.{length, take, drop}
 pub use borrow.Author.Needs.{needs}
+pub use borrow.Author.Tests.{eq-eqb, ne-eqb}
 pub use Rattle.model.specs.States.{queueCapacity, blankWaiter}
 unfoldable pub use Rattle.model.specs.States.{waiters}
 unfoldable pub use Rattle.model.specs.AtMachine.{joined, installs, grantArrives, rejectedGrantArrives, marked, unmarked, acquireArrives, releaseArrives}
@@ -13,5 +14,5 @@ pub use Rattle.laws.specs.Parting.{none-leaves}
 pub use Rattle.parts.specs.Scans.{used-more, used-end}
 pub use Rattle.rules.specs.Room.{room-left}
 pub use Rattle.rules.specs.Deciding.{tested-yes, tested-no}
-pub use Rattle.machine.specs.Admits.{Room, admits, admits-none, admits-next, room-next, room-start, admits-start}
-unfoldable pub use Rattle.machine.specs.Admits.{admitsOne}
+pub use Rattle.machine.specs.Admits.{Room, room-next, room-start, admits-start}
+unfoldable pub use Rattle.machine.specs.Admits.{admitsOne, admits}

@@ -47,7 +47,7 @@ ghost use Rattle.model.specs.AtMachine.{freeArrives, arrives, atMachine};
 ghost use Rattle.laws.specs.Shapes.{CanonicalQueue};
 ghost use Rattle.machine.specs.Names.{Exclusive, Shared};
 ghost use Rattle.rules.specs.Effects.{verdictOf};
-ghost use Rattle.machine.specs.Admits.{Room, admitsOne, admits, admission};
+ghost use Rattle.machine.specs.Admits.{Room, leavesNext, admitsOne, admits, admission};
 
 // A shared agent is installed, and its queue's waiters are gone through: the holders with those who joined, who stays in the queue, who left it.
 struct Admission {
@@ -56,13 +56,21 @@ struct Admission {
     pub admitted: Queue,
 }
 
-// A shared waiter joins the holders; another stays.
+// The next waiter may leave the queue: it is shared, and nobody ahead of it stays.
+fn may_leave(t: Admission, w: Waiter) -> bool
+    ensures { λ r. ⌜ r ≡ leavesNext t w ⌝ }
+{
+    let q = t.staying;
+    let m = w.mode;
+    if q.len == 0 { is_shared(m) } else { false }
+}
+
+// A waiter that may leave joins the holders; another stays.
 fn admit(mut t: Admission, w: Waiter) -> Admission
     requires { ⌜ Room t 1 ⌝ }
     ensures { λ r. ⌜ r ≡ admitsOne t w ⌝ }
 {
-    let m = w.mode;
-    if is_shared(m) {
+    if may_leave(t, w) {
         let c = w.client;
         let h = t.holders;
         let g = set_holder(h, c, true);

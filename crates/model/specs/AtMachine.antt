@@ -16,18 +16,18 @@ sentBack p = resent p ToDecider (p .rejected)
 abbrev pub sendsBack : Site → Packet → Verdict
 sendsBack v p = does v (sentBack p ∷ [])
 
--- Where an agent is installed with mode m, who of its queue is admitted to the holders (the shared, if m is shared), and who stays. Each of the two
--- keeps the queue's order.
+-- Where an agent is installed with mode m, who of its queue is admitted to the holders: if m is shared, its first waiters, as far as all of them are shared;
+-- else nobody. The others stay as they stood (request 3 of document 02: first come, first served).
 abbrev pub mayLeave : Mode → Waiter → Bool
 mayLeave m w = isShared m && isShared (w .mode)
 
 unfoldable pub admitted : Mode → List Waiter → List Waiter
 admitted m [] = []
-admitted m (w ∷ ws) = pick (mayLeave m w) (w ∷ admitted m ws) (admitted m ws)
+admitted m (w ∷ ws) = pick (mayLeave m w) (w ∷ admitted m ws) []
 
 unfoldable pub staying : Mode → List Waiter → List Waiter
 staying m [] = []
-staying m (w ∷ ws) = pick (mayLeave m w) (staying m ws) (w ∷ staying m ws)
+staying m (w ∷ ws) = pick (mayLeave m w) (staying m ws) (w ∷ ws)
 
 unfoldable pub joined : List Bool → List Waiter → List Bool
 joined hs [] = hs

@@ -17,7 +17,7 @@ use Rattle.model.specs.AtMachine.{freeArrives, arrives, atMachine}
 use Rattle.model.specs.Refusals.{first}
 use Rattle.model.specs.Calls.{delivers, acquireStep, releaseStep, takes, deliverStep, settled, unless, acquire, release, deliver, perform, run, packetAt}
 use Rattle.model.specs.Counts.{agentsIn, marksIn, uncounted}
-use Rattle.theorems.specs.Scenarios.{machine, on, acquires0, releases0, delivers0, with0, d9-start}
+use Rattle.theorems.specs.Scenarios.{machine, on, acquires0, releases0, delivers0, with0, d9-start, d12-queued, passes}
 
 -- where the agent is
 pub data Where : Type 0 where
@@ -66,7 +66,7 @@ abbrev to-grant : List Call
 to-grant = acquires0 0 0 2 ∷ delivers0 0 ∷ delivers0 0 ∷ acquires0 0 1 3 ∷ acquires0 0 2 3 ∷ releases0 0 0 ∷ delivers0 0 ∷ delivers0 0 ∷ []
 
 pub data Name : Type 0 where
-  D1 D2 D3 D3-rejected D5 D9 D13 agent-grants : Name
+  D1 D2 D3 D3-rejected D5 D9 D12 D13 agent-grants : Name
 
 abbrev pub screens : Name → Screen
 screens D1 = shows freshLock to-D1 (in-packet 0) (1 ∷ 1 ∷ 0 ∷ 0 ∷ [])
@@ -76,6 +76,8 @@ screens D3-rejected = shows freshLock to-D3-rejected (in-packet 2) (3 ∷ 1 ∷ 
 screens D5 = shows freshLock (to-D3-rejected ++ (delivers0 2 ∷ delivers0 1 ∷ [])) (on-machine 0) (1 ∷ 1 ∷ 0 ∷ 0 ∷ [])
 -- 0 less 255, in eight bits
 screens D9 = shows d9-start (acquires0 1 0 3 ∷ delivers0 0 ∷ []) (on-machine 0) (2 ∷ 1 ∷ 1 ∷ 1 ∷ [])
+-- a gets the agent, and no GRANT is sent to c, who waits behind b
+screens D12 = shows d12-queued (passes 0) (on-machine 1) (0 ∷ 1 ∷ 0 ∷ 0 ∷ [])
 -- the wire that fills all places
 screens D13 = shows freshLock (to-D1 ++ (delivers0 0 ∷ releases0 0 0 ∷ visits clients)) (in-packet 0) (33 ∷ 1 ∷ 16 ∷ 16 ∷ [])
 -- the decider sends on the GRANT of the agent, and does not count it
@@ -93,5 +95,6 @@ figures-hold D3 = refl
 figures-hold D3-rejected = refl
 figures-hold D5 = refl
 figures-hold D9 = refl
+figures-hold D12 = refl
 figures-hold D13 = refl
 figures-hold agent-grants = refl

@@ -1,4 +1,4 @@
--- A GRANT with its agent comes to its client's machine: the agent is installed, and with a shared one the shared waiters join.
+-- A GRANT with its agent comes to its client's machine: the agent is installed, and whoever is admitted from its queue joins.
 use Rattle.theorems.specs.Names.{MachineId, ClientId, Mode, Shared, Owner, Waiter, Agent, AgentSlot, ToMachine, Grant, Packet, Status, Waiting, Holding}
 use Rattle.theorems.specs.Names.{LockState, _≡_, refl, _∙_, Bool, true, false, List, [], _∷_, map, ℕ, _+_, _*_, _≤_, _<_, arith, length, getD, set}
 use Rattle.theorems.specs.Names.{length-set, List·getD-eq-default, eqb, ltb, eq-eqb, ne-eqb, ltb-true, ltb-false, waiters, noAgent, siteOf}

@@ -1,15 +1,15 @@
--- The scenarios of document 01 that are marked to be proved (D1 to D10), and one for each of its tempting faults: each a start state,
--- calls on lock 0, and the numbers of the answers and the whole cluster that follow. One list, by name, and one theorem, by computation.
+-- The scenarios of document 01 that are marked to be proved (D1 to D10), D12 as request 3 of document 02 has it, and one for each of the tempting faults: each
+-- a start state, calls on lock 0, and the numbers of the answers and the whole cluster that follow. One list, by name, and one theorem, by computation.
 use mathlib.Core.Path.{_≡_, refl}
 use mathlib.Core.Bool.{Bool, true, false}
-use mathlib.Core.List.{List, [], _∷_, map}
+use mathlib.Core.List.{List, [], _∷_, _++_, map}
 use Prim.Native.Nat.{ℕ}
 use lib.ListN.{set, replicate}
 use Rattle.model.specs.Lists.{padded, removed}
 use Rattle.theorems.specs.Names.{LockId, MachineId, ClientId, Mode, Exclusive, Shared, Owned, Decider, Waiter, Agent, AgentSlot, ToDecider, ToMachine}
-use Rattle.theorems.specs.Names.{Message, Free, Acquire, Grant, Release, Packet, Status, Waiting, Holding, ClientState, LockState, Cluster, Call}
+use Rattle.theorems.specs.Names.{Message, Free, Acquire, Grant, Release, Packet, Status, Idle, Waiting, Holding, ClientState, LockState, Cluster, Call}
 use Rattle.theorems.specs.Names.{AcquireCall, ReleaseCall, DeliverCall, locks, machines, clients, carrying, resent, mayJoin, mayShare, number}
-use Rattle.model.specs.States.{queueOf, waiters, noHolders, newAgent, someAgent, noAgent, idle, plain, blankPacket, wireOf, packets, freshLock}
+use Rattle.model.specs.States.{queueOf, waiters, noHolders, newAgent, someAgent, noAgent, idle, plain, blankPacket, wireOf, packets, freshLock, statusOf}
 use Rattle.model.specs.WellFormed.{shaped, isBlankWaiter, distinct, queueFormed, agentFormed, isBlankAgent, slotFormed, messageFormed, packetFormed}
 use Rattle.model.specs.WellFormed.{isBlankPacket, wireFormed, lockFormed, wellFormed}
 use Rattle.model.specs.Changes.{finish}
@@ -20,6 +20,7 @@ use Rattle.model.specs.AtMachine.{freeArrives, arrives, atMachine}
 use Rattle.model.specs.Refusals.{first}
 use Rattle.model.specs.Calls.{delivers, acquireStep, releaseStep, takes, deliverStep, settled, unless, acquire, release, deliver, perform, run, answersOf}
 use Rattle.model.specs.Drain.{releaseFirst, nextOf, drainage, drainEnded, drainUnless, drain}
+use Rattle.model.specs.Trace.{sees, watch, grantsIn}
 
 -- ---- words for states and calls: clients 0/0, 0/1 and 1/0 are 0, 1 and 4, and 2/0 is 8
 abbrev pub machine : ℕ → MachineId
@@ -88,11 +89,14 @@ pub data Scenario : Type 0 where
   from : LockState → List Call → List ℕ → LockState → Scenario
   -- from this state of lock 0: the number of its drain's answer, the drain's steps, and the state after it
   drained : LockState → ℕ → ℕ → LockState → Scenario
+  -- from this state of lock 0: calls, and how many grants they show to each of these clients
+  granted : LockState → List Call → List ℕ → List ℕ → Scenario
 
 abbrev pub Holds : Scenario → Type 0
 Holds (from s cs ns t) = (map number (answersOf cs (with0 s)) ≡ ns) × (run cs (with0 s) ≡ with0 t)
 Holds (drained s n steps t) =
     (number (drain (with0 s) (on 0) .answer) ≡ n) × (drain (with0 s) (on 0) .count ≡ steps) × (drain (with0 s) (on 0) .cluster ≡ with0 t)
+Holds (granted s cs who ns) = map (λ (c : ℕ). grantsIn (on 0) (client c) cs (with0 s) (statusOf s (client c))) who ≡ ns
 
 -- ---- the states that the scenarios reach
 abbrev firstAgent : Agent
@@ -165,6 +169,37 @@ d9 = lock (owned Shared 0 0) (on0 (agent Shared (0 ∷ []) 255)) (waiting4 Share
 abbrev d9-agent : LockState
 d9-agent = lock (owned Shared 0 0) (on0 (agent Shared (4 ∷ 0 ∷ []) 0)) (waiting4 Shared holding0) (grantTo1 ∷ [])
 
+-- D12: behind the exclusive holder 0/0 stand a, who asks shared, b, exclusive, and c, shared: 1/0, 2/0 and 3/0
+abbrev reads : ℕ → Waiter
+reads c = record { client = client c; mode = Shared }
+
+abbrev three : Status → Status → Status → List ClientState
+three a b c = status 4 a (status 8 b (status 12 c others))
+
+abbrev pub d12-queued : LockState
+d12-queued =
+    lock (owned Exclusive 0 0) (on0 (queue (reads 4 ∷ waits 8 ∷ reads 12 ∷ []) (agent Exclusive (0 ∷ []) 0)))
+    (status 0 (Holding Exclusive) (three (Waiting Shared) (Waiting Exclusive) (Waiting Shared))) []
+
+-- the agent is on machine k, and nothing is under way
+abbrev settled-on : ℕ → Agent → List ClientState → LockState
+settled-on k a cs = lock (owned (a .mode) k 0) (set nowhere k (someAgent a)) cs []
+
+-- a gets the agent; c waits behind b
+abbrev d12 : LockState
+d12 = settled-on 1 (queue (waits 8 ∷ reads 12 ∷ []) (agent Shared (4 ∷ []) 0)) (three (Holding Shared) (Waiting Exclusive) (Waiting Shared))
+
+-- then b gets it, and then c
+abbrev d12-second : LockState
+d12-second = settled-on 2 (queue (reads 12 ∷ []) (agent Exclusive (8 ∷ []) 0)) (three Idle (Holding Exclusive) (Waiting Shared))
+
+abbrev d12-third : LockState
+d12-third = settled-on 3 (agent Shared (12 ∷ []) 0) (three Idle Idle (Holding Shared))
+
+-- client k/0 releases, and the agent goes by way of the decider to the next
+abbrev pub passes : ℕ → List Call
+passes k = releases0 k 0 ∷ delivers0 0 ∷ delivers0 0 ∷ []
+
 -- ---- the tempting faults
 -- a marked ACQUIRE that comes back is not granted again: no incarnation, no second GRANT
 abbrev f-marked : LockState
@@ -196,6 +231,7 @@ f-requeued = lock (owned Shared 0 1) (on0 (queue (waits 4 ∷ waits 8 ∷ []) (a
 -- ---- the list, and the theorem
 pub data Name : Type 0 where
   D1 D1-arrived D1-drained D2 D3 D3-rejected D4 D5 D6 D7 D8-queued D8 D9 D9-agent D10 : Name
+  D12-queued D12 D12-second D12-third D12-granted : Name
   marked-returns granted-locally unmarked-joins waiter-returns : Name
 
 abbrev pub scenarios : Name → Scenario
@@ -218,6 +254,17 @@ scenarios D9 = from d9-start (acquires0 1 0 3 ∷ delivers0 0 ∷ []) (0 ∷ 0 �
 scenarios D9-agent = from d9 (delivers0 1 ∷ []) (0 ∷ []) d9-agent
 -- of two wrong numbers, the lock's is answered
 scenarios D10 = from freshLock (lock8 ∷ []) (1 ∷ []) freshLock
+-- each of the three asks the decider, which sends it on to the agent
+scenarios D12-queued =
+    from freshLock
+    (acquires0 0 0 2 ∷ delivers0 0 ∷ delivers0 0 ∷ acquires0 1 0 3 ∷ delivers0 0 ∷ delivers0 0 ∷ acquires0 2 0 2 ∷ delivers0 0 ∷ delivers0 0
+    ∷ acquires0 3 0 3 ∷ delivers0 0 ∷ delivers0 0 ∷ [])
+    (replicate 12 0) d12-queued
+scenarios D12 = from d12-queued (passes 0) (replicate 3 0) d12
+scenarios D12-second = from d12 (passes 1) (replicate 3 0) d12-second
+scenarios D12-third = from d12-second (passes 2) (replicate 3 0) d12-third
+-- each of them once
+scenarios D12-granted = granted d12-queued (passes 0 ++ (passes 1 ++ passes 2)) (4 ∷ 8 ∷ 12 ∷ []) (1 ∷ 1 ∷ 1 ∷ [])
 -- the tempting faults
 scenarios marked-returns = from d3 (delivers0 1 ∷ delivers0 2 ∷ []) (0 ∷ 0 ∷ []) f-marked
 scenarios granted-locally = from d1-held (acquires0 0 1 3 ∷ []) (0 ∷ []) f-local
@@ -230,7 +277,7 @@ unfolding run perform acquire release deliver unless settled first acquireStep r
     wellFormed lockFormed wireFormed packetFormed messageFormed slotFormed agentFormed isBlankAgent isBlankPacket isBlankWaiter queueFormed distinct shaped
     atDecider decides decidesAcquire decidesFree decidesGrant toOwner atMachine arrives acquireArrives releaseArrives freeArrives marked unmarked
     grantArrives rejectedGrantArrives mayShare mayJoin installs admitted staying joined clientAcquires clientAsks clientReleases staysIf handOver
-    padded removed queueOf waiters noAgent blankPacket wireOf packets freshLock
+    padded removed queueOf waiters noAgent blankPacket wireOf packets freshLock watch sees
 scenarios-hold D1 = (refl, refl)
 scenarios-hold D1-arrived = (refl, refl)
 scenarios-hold D1-drained = (refl, refl, refl)
@@ -246,6 +293,11 @@ scenarios-hold D8 = (refl, refl)
 scenarios-hold D9 = (refl, refl)
 scenarios-hold D9-agent = (refl, refl)
 scenarios-hold D10 = (refl, refl)
+scenarios-hold D12-queued = (refl, refl)
+scenarios-hold D12 = (refl, refl)
+scenarios-hold D12-second = (refl, refl)
+scenarios-hold D12-third = (refl, refl)
+scenarios-hold D12-granted = refl
 scenarios-hold marked-returns = (refl, refl)
 scenarios-hold granted-locally = (refl, refl)
 scenarios-hold unmarked-joins = (refl, refl)

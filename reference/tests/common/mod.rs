@@ -3,7 +3,7 @@
 
 use reference::model::{
     Address, Agent, ClientId, ClientStatus, Cluster, LockId, LockState, MachineId, Message, Mode,
-    Packet, TaskId,
+    Packet, TaskId, Waiter,
 };
 use reference::{answer_number, Outcome};
 
@@ -53,6 +53,15 @@ pub fn holders(agent: &Agent) -> Vec<u8> {
     let all = 0..16;
     all.filter(|&c| agent.holders.contains(ClientId(c)))
         .collect()
+}
+
+/// The clients and modes of a queue, first come first.
+pub fn waiters(queue: &[(u8, Mode)]) -> Vec<Waiter> {
+    let waiter = |&(number, mode)| Waiter {
+        client: ClientId(number),
+        mode,
+    };
+    queue.iter().map(waiter).collect()
 }
 
 pub fn to(machine: u8) -> Address {
@@ -121,6 +130,61 @@ pub fn d6() -> Cluster {
         deliver(&mut cluster, 1),
     ]);
     cluster
+}
+
+/// 0/0 holds exclusively; a = 1/0 shared, b = 2/0 exclusive and c = 3/0 shared are queued.
+pub fn d12_queue() -> Cluster {
+    let mut cluster = Cluster::new();
+    accepted(&[
+        acquire(&mut cluster, 0, 0, EXCLUSIVE),
+        deliver(&mut cluster, 0),
+        deliver(&mut cluster, 0),
+    ]);
+    for (machine, mode) in [(1, SHARED), (2, EXCLUSIVE), (3, SHARED)] {
+        accepted(&[
+            acquire(&mut cluster, machine, 0, mode),
+            deliver(&mut cluster, 0),
+            deliver(&mut cluster, 0),
+        ]);
+    }
+    cluster
+}
+
+/// The exclusive holder has released, and a has got the agent.
+pub fn d12() -> Cluster {
+    let mut cluster = d12_queue();
+    accepted(&[
+        release(&mut cluster, 0, 0),
+        deliver(&mut cluster, 0),
+        deliver(&mut cluster, 0),
+    ]);
+    cluster
+}
+
+/// Drains lock 0 by calls: whom the GRANTs were for that a machine showed, in order, and the number of steps.
+pub fn shown_by_draining(cluster: &mut Cluster) -> (Vec<u8>, u16) {
+    let (mut shown, mut steps) = (Vec::new(), 0);
+    loop {
+        let holding = |&number: &u8| {
+            let status = status(cluster, number / 4, number % 4);
+            matches!(status, ClientStatus::Holding(_))
+        };
+        let lowest = (0..16).find(holding);
+        match (lock(cluster).wire.first(), lowest) {
+            (Some(packet), _) => {
+                let to_machine = packet.address != Address::Decider;
+                if let (Message::Grant { client, .. }, true, false) =
+                    (packet.message, to_machine, packet.rejected)
+                {
+                    shown.push(client.0);
+                }
+                accepted(&[deliver(cluster, 0)]);
+            }
+            (None, Some(number)) => accepted(&[release(cluster, number / 4, number % 4)]),
+            (None, None) => return (shown, steps),
+        }
+        steps += 1;
+    }
 }
 
 /// All sixteen clients have come and gone; nothing reached the agent.
