@@ -42,3 +42,5 @@ pub mod Counts
 -- ---- why a client waits
 pub mod ReasonWeights
 pub mod Reasons
+-- ---- first come, first served
+pub mod FirstCome

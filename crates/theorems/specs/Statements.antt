@@ -1,5 +1,5 @@
--- What is proved, in Theorems, Drains, Listings, Counts and Reasons: of the numbers of answers, and of every list of calls on a fresh cluster. Past the last,
--- a lock reads as fresh and a client as idle.
+-- What is proved, in Theorems, Drains, Listings, Counts, Reasons and FirstCome: of the numbers of answers, and of every list of calls on a fresh cluster. Past
+-- the last, a lock reads as fresh and a client as idle.
 use Rattle.model.specs.Drain.{allowance, Quiescent, drainCalls, drain}
 use Rattle.model.specs.Trace.{isAccepted, grantsIn}
 use Rattle.model.specs.Refusals.{first}
@@ -11,7 +11,9 @@ use Rattle.theorems.specs.Names.{true, List, [], _∷_, ℕ, _≤_, _<_,
 use Rattle.theorems.specs.Names.{current, packetAt, run, answersOf, perform, lockOf, number, phaseAfter, _+_, _-_, _*_, locks, clients, wireCapacity}
 use Rattle.theorems.specs.Names.{after, _++_, map, Packet, MachineId, Unowned, Owned, LockState, Bool, false, not, _||_, count, agentOn, ownedShared}
 use Rattle.theorems.specs.Names.{names, isFree, agentsIn, marksIn, uncounted, TaskId, Reason, ReasonAnswer, Because, machines, tasks, clientOf}
-use Rattle.theorems.specs.Names.{isTrue, reasonIn, reason, reasonNumber, reasonValues}
+use Rattle.theorems.specs.Names.{isTrue, reasonIn, reason, reasonNumber, reasonValues, Waiter, Agent, ToMachine, Grant, _&&_, isShared, waiters, carrying}
+use Rattle.theorems.specs.Names.{removed, grantOf, deliver}
+use lib.ListN.{take}
 
 -- Different answers have different numbers, and 0 is the number of the accepted alone.
 pub record Numbered : Type 0 where
@@ -173,3 +175,23 @@ pub record WhereIs (cs : List Call) (l : LockId) (k : MachineId) (t : TaskId) : 
 
 abbrev pub WhereIsMyRequest : List Call → Type 0
 WhereIsMyRequest cs = (l : LockId) (k : MachineId) (t : TaskId) → l .0 < locks → k .0 < machines → t .0 < tasks → WhereIs cs l k t
+
+-- Request 3 of document 02: first come, first served. An agent that was under way with the index i is installed on machine k, in mode m: a is the agent as it
+-- came, s and t are the lock's states before and after.
+pub record FirstCome (s t : LockState) (i : ℕ) (k : MachineId) (m : Mode) (a : Agent) : Type 0 where
+  pub left : List Waiter
+  -- Whoever leaves the queue stood ahead of everyone who stays in it, and nobody changes places.
+  pub ahead : waiters (a .queue) ≡ left ++ waiters (agentOn t k .agent .queue)
+  -- No exclusive waiter leaves, and with an exclusive agent nobody does.
+  pub shared : all (λ (w : Waiter). isShared (w .mode)) left ≡ true
+  pub alone : isShared m ≡ false → left ≡ []
+  -- Nobody stays who could leave: the first who does, or the agent, is exclusive.
+  pub barred : all (λ (w : Waiter). not (isShared m && isShared (w .mode))) (take 1 (waiters (agentOn t k .agent .queue))) ≡ true
+  -- To each who leaves a GRANT is sent, in the queue's order, and nothing else is sent.
+  pub granted : packets (t .wire) ≡ removed (packets (s .wire)) i ++ map grantOf left
+
+-- On any cluster, made by hand or not, that is so of every accepted delivery of a GRANT with its agent to a machine, if it was not rejected.
+abbrev pub FirstServed : Cluster → LockId → ℕ → Type 0
+FirstServed x l i =
+    (k : MachineId) (c : ClientId) (m : Mode) (a : Agent) → packetAt (lockIn x l) i ≡ carrying (Grant c m) (ToMachine k) a
+    → deliver x l i .answer ≡ Accepted → FirstCome (lockIn x l) (lockIn (deliver x l i .cluster) l) i k m a

@@ -1,0 +1,102 @@
+-- First come, first served: who leaves a queue when its agent is installed (request 3 of document 02), on any cluster.
+use Rattle.model.specs.AtMachine.{mayLeave}
+use Rattle.laws.specs.Tests.{pick-by}
+use Rattle.laws.specs.Formed.{parts, packet-at, lock-formed}
+use Rattle.laws.specs.CallSteps.{may-deliver, CallCases, denied, passed, call-cases, settled-answer, perform-here}
+use Rattle.theorems.specs.Names.{LockId, MachineId, ClientId, Mode, Exclusive, Shared, Waiter, Agent, ToMachine, Grant, Packet, Holding, LockState}
+use Rattle.theorems.specs.Names.{Cluster, DeliverCall, Refusal, Accepted, Refused, Stepped, Outcome, _≡_, refl, sym, ap, _∙_, Bool, true, false}
+use Rattle.theorems.specs.Names.{_&&_, not, true≢false, false≢true, isAccepted, List, [], _∷_, _++_, map, ℕ, _+_, _<_, arith, length, getD-set-same}
+use Rattle.theorems.specs.Names.{leb, ltb-true, all, removed, isShared, waiters, someAgent, noAgent, agentOn, carrying, packets, lockIn, wellFormed}
+use Rattle.theorems.specs.Names.{siteOf, withSlot, withStatus, apply, finish, grantOf, admitted, staying, installed, installs, grantArrives, arrives}
+use Rattle.theorems.specs.Names.{atMachine, packetAt, delivers, takes, deliverStep, unless, deliver, perform, and-right, both, bool-cases}
+use Rattle.theorems.specs.Names.{waiters-of, packets-of, none-leaves, machines, wireCapacity}
+use Rattle.model.specs.Refusals.{first}
+use lib.ListN.{take}
+use Rattle.theorems.specs.Statements.{FirstCome, FirstServed}
+
+-- ---- of a queue
+module _ (m : Mode) where
+  in-order : (ws : List Waiter) → ws ≡ admitted m ws ++ staying m ws
+  unfolding admitted staying
+  in-order [] = refl
+  in-order (w ∷ ws) = bool-cases (mayLeave m w) (λ e. rw e (ap (λ (vs : List Waiter). w ∷ vs) (in-order ws))) (λ e. rw e refl)
+
+  all-shared : (ws : List Waiter) → all (λ (w : Waiter). isShared (w .mode)) (admitted m ws) ≡ true
+  unfolding admitted
+  all-shared [] = refl
+  all-shared (w ∷ ws) = bool-cases (mayLeave m w) (λ e. rw e (both _ _ (and-right (isShared m) _ e) (all-shared ws))) (λ e. rw e refl)
+
+  barred : (ws : List Waiter) → all (λ (w : Waiter). not (mayLeave m w)) (take 1 (staying m ws)) ≡ true
+  unfolding staying
+  barred [] = refl
+  barred (w ∷ ws) = bool-cases (mayLeave m w) (λ e. rw e (barred ws)) (λ e. rw e (ap (λ (b : Bool). not b && true) e))
+
+-- ---- of a delivery
+not-accepted : {r : Refusal} → Refused r ≡ Accepted → ⊥
+not-accepted e = false≢true (ap isAccepted e)
+
+module _ (s : LockState) (i : ℕ) (k : MachineId) (c : ClientId) (m : Mode) (a : Agent) (brings : packetAt s i ≡ carrying (Grant c m) (ToMachine k) a) where
+  abbrev rest : List Packet
+  rest = removed (packets (s .wire)) i
+
+  abbrev line : List Waiter
+  line = waiters (a .queue)
+
+  alone : isShared m ≡ false → admitted m line ≡ []
+  alone e = go m e
+    where
+      go : (n : Mode) → isShared n ≡ false → admitted n line ≡ []
+      go Exclusive e = none-leaves line .0
+      go Shared e = absurd (true≢false e)
+
+  abbrev sent : List Packet
+  sent = map grantOf (admitted m line)
+
+  abbrev then : LockState
+  then = apply k c (withSlot (withStatus (siteOf s k c) (Holding m)) (someAgent (installed m c a))) sent rest s
+
+  installed-so : k .0 < length (s .agents) → FirstCome s then i k m a
+  installed-so h =
+      let e = getD-set-same (s .agents) (k .0) (someAgent (installed m c a)) noAgent h in
+      record {
+        left = admitted m line;
+        ahead = rw (e, waiters-of (staying m line)) (in-order m line);
+        shared = all-shared m line;
+        alone = alone;
+        barred = rw (e, waiters-of (staying m line)) (barred m line);
+        granted = packets-of _;
+      }
+
+  -- where there was one already, or the wire has no room, the step is refused
+  delivered-so : k .0 < length (s .agents) → deliverStep s i .answer ≡ Accepted → FirstCome s (deliverStep s i .state) i k m a
+  unfolding deliverStep takes delivers atMachine arrives grantArrives installs finish
+  delivered-so h e = rw brings (go (agentOn s k .present) (rw brings at e))
+    where
+      go : (here : Bool) → finish k c (grantArrives here true (siteOf s k c) a c m) rest s .answer ≡ Accepted
+          → FirstCome s (finish k c (grantArrives here true (siteOf s k c) a c m) rest s .state) i k m a
+      go true e = absurd (not-accepted e)
+      go false e =
+          pick-by (λ (t : Stepped). t .answer ≡ Accepted → FirstCome s (t .state) i k m a) (leb (length rest + length sent) wireCapacity)
+          (λ q z. installed-so h) (λ q z. absurd (not-accepted z)) e
+
+-- ---- of a call: on a malformed cluster none is accepted
+accepted-formed : (x : Cluster) (l : LockId) (i : ℕ) → deliver x l i .answer ≡ Accepted → wellFormed x ≡ true
+unfolding deliver unless first
+accepted-formed x l i e = bool-cases (wellFormed x) (λ w. w) (λ w. absurd (not-accepted (rw w at e)))
+
+pub first-come : (x : Cluster) (l : LockId) (i : ℕ) → FirstServed x l i
+unfolding perform
+first-come x l i k c m a brings e = go (call-cases (DeliverCall l i) x w)
+  where
+    w : wellFormed x ≡ true
+    w = accepted-formed x l i e
+
+    go : CallCases (DeliverCall l i) x → FirstCome (lockIn x l) (lockIn (deliver x l i .cluster) l) i k m a
+    go (denied r b n q) = absurd (not-accepted (sym (ap (λ (o : Outcome). o .answer) q) ∙ e))
+    go (passed b (may-deliver h) q) =
+        let s : LockState = lockIn x l in
+        let p = parts s (lock-formed x l w b) in
+        let kk : k .0 < machines = ltb-true (k .0) machines (rw brings at (packet-at p i h .address)) in
+        let f : deliverStep s i .answer ≡ Accepted =
+        sym (settled-answer _ x l (deliverStep s i .state)) ∙ sym (ap (λ (o : Outcome). o .answer) q) ∙ e in
+        rw (perform-here (DeliverCall l i) x w b q) (delivered-so s i k c m a brings (omega (arith, p .all-machines)) f)
