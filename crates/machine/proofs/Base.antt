@@ -13,6 +13,6 @@ pub use Rattle.laws.specs.Shapes.{waiters-of, queue-whole}
 pub use Rattle.laws.specs.Parting.{none-leaves}
 pub use Rattle.parts.specs.Scans.{used-more, used-end}
 pub use Rattle.rules.specs.Room.{room-left}
-pub use Rattle.rules.specs.Deciding.{tested-yes, tested-no}
+pub use Rattle.rules.specs.Tested.{tested-yes, tested-no}
 pub use Rattle.machine.specs.Admits.{Room, room-next, room-start, admits-start}
 unfoldable pub use Rattle.machine.specs.Admits.{admitsOne, admits}

@@ -2,6 +2,7 @@
 use crate::plan::NONE_OFF;
 use crate::plan::Plan;
 use crate::plan::plan_effect;
+use decider::at_decider;
 use machine::at_machine;
 use model::Address;
 use model::ClientId;
@@ -13,7 +14,6 @@ use model::Packet;
 use model::Site;
 use parts::wire::packet_at;
 use rules::asking::acquire;
-use rules::decider::at_decider;
 use rules::effect::Effect;
 use rules::leaving::machine_of;
 use rules::leaving::release;

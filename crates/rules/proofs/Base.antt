@@ -6,6 +6,5 @@ unfoldable pub use Rattle.model.specs.States.{queueOf, waiters}
 unfoldable pub use Rattle.rules.specs.Effects.{sentBy, verdictOf}
 pub use Rattle.rules.specs.Leaving.{hands-on, frees}
 pub use Rattle.rules.specs.Room.{room-left}
-pub use Rattle.rules.specs.Deciding.{marked-sent, tested-yes, tested-no}
+pub use Rattle.rules.specs.Tested.{tested-yes, tested-no}
 unfoldable pub use Rattle.model.specs.Asking.{mayJoin, clientAsks, clientAcquires, staysIf, clientReleases}
-unfoldable pub use Rattle.model.specs.AtDecider.{toOwner, mayShare, decidesAcquire, decidesFree, decidesGrant, decides, atDecider}

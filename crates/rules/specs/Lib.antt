@@ -3,4 +3,4 @@ pub mod Names
 pub mod Effects
 pub mod Leaving
 pub mod Room
-pub mod Deciding
+pub mod Tested

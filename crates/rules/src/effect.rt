@@ -49,7 +49,7 @@ pub fn one_packet(p: Packet) -> Sends
 }
 
 // p before q.
-pub(crate) fn two_packets(p: Packet, q: Packet) -> Sends
+pub fn two_packets(p: Packet, q: Packet) -> Sends
     ensures { λ r. ⌜ sentBy r ≡ p ∷ q ∷ [] ⌝ }
 {
     let e = empty_queue();

@@ -1,6 +1,5 @@
-// The rules of document 01 for clients and at the decider, each as what it writes and sends; those at a machine are in the crate machine.
+// The rules of document 01 for clients, each as what it writes and sends; those at the decider and at a machine are in the crates decider and machine.
 pub mod asking;
-pub mod decider;
 pub mod effect;
 pub mod leaving;
 pub mod site;

@@ -27,7 +27,7 @@ pub fn site_of(s: LockState, k: MachineId, c: ClientId) -> Site
 }
 
 // ---- the site with one part written
-pub(crate) fn with_decider(mut v: Site, d: Decider) -> Site
+pub fn with_decider(mut v: Site, d: Decider) -> Site
     ensures { λ r. ⌜ r ≡ withDecider v d ⌝ }
 {
     v.decider = d;

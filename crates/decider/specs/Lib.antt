@@ -1,0 +1,2 @@
+-- A law of the rules at the decider.
+pub mod Marked
