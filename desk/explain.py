@@ -7,6 +7,8 @@ from desk.step import steps
 from desk.words import MODES, agent, client, count, decider, packet, place, status_and_why, why
 
 INDENT = "   "
+LAST = {"no agent": "came back, no agent", "not a holder": "came back, not a holder", "taken": "was taken"}
+LATER = {"no agent": "comes back, no agent", "not a holder": "comes back, not a holder", "taken": "is taken"}
 
 
 def asked(line):
@@ -49,13 +51,18 @@ def changes(step):
             yield f"Agent on machine {machine}: {agent(new)}."
 
 
+def accepted(line):
+    """The answer of an accepted step, and what a machine made of the request that it brought."""
+    return f"accepted, {line['handling']}" if line["handling"] else "accepted"
+
+
 def explained(step):
     """A step's lines: what was asked, with the answer, and what came of it."""
     begun = f"{step.line['n']}. {asked(step.line)}"
     if step.line["answer"]:
         return [f"{begun}: refused, {step.line['answer']}.", f"{INDENT}{reason(step)}", f"{INDENT}Nothing moved."]
     sentences = [*said(step), *changes(step)]
-    return [f"{begun}{delivered(step)}: accepted.", *(INDENT + sentence for sentence in sentences)]
+    return [f"{begun}{delivered(step)}: {accepted(step.line)}.", *(INDENT + sentence for sentence in sentences)]
 
 
 def on_wire(number, one):
@@ -85,13 +92,14 @@ def table(counts, state):
 
 
 def ended(end):
-    """How the transcript ended."""
+    """How the transcript ended, and what became of the last request that reached a machine, if one did."""
     if end["end"] == "too long":
-        return "The transcript has more than 65,535 bytes: answer 13. No record of it was run."
+        return ["The transcript has more than 65,535 bytes: answer 13. No record of it was run."]
+    told = [f"The last request that reached a machine {LAST[end['handling']]}."] if end["handling"] else []
     if end["end"] == "end":
-        return f"The transcript was read to its end: {count(end['records'], 'record')}."
+        return [f"The transcript was read to its end: {count(end['records'], 'record')}.", *told]
     hint = " Is it a .steps file? ./assemble makes a transcript of it." if end["records"] == 1 else ""
-    return f"Record {end['records']} is bad: answer 12. Reading stopped there, after {count(end['records'] - 1, 'record')}.{hint}"
+    return [f"Record {end['records']} is bad: answer 12. Reading stopped there, after {count(end['records'] - 1, 'record')}.{hint}", *told]
 
 
 def drained(end):
@@ -100,14 +108,18 @@ def drained(end):
     if not left:
         return ["Nothing is left to drain: every lock is quiescent, with no packet and no holder."]
     return [f"A drain of lock {drain['lock']} from here is refused: answer {drain['answer']}." if drain["answer"]
-            else f"A drain of lock {drain['lock']} from here takes {count(drain['count'], 'step')}." for drain in left]
+            else f"A drain of lock {drain['lock']} from here takes {count(drain['count'], 'step')}{told_by(drain)}." for drain in left]
+
+
+def told_by(drain):
+    return f"; the last request that reaches a machine {LATER[drain['handling']]}" if drain["handling"] else ""
 
 
 def text(options, lines):
     out = []
     for step in steps(lines):
         if isinstance(step, dict):
-            out += [ended(step), *drained(step)]
+            out += [*ended(step), *drained(step)]
             continue
         out += explained(step)
         if options.state and step.after:

@@ -6,6 +6,7 @@ from desk.reasons import ON_WIRE, reasons
 LOCKS, MACHINES, CLIENTS, WIRE = 8, 4, 16, 33
 ANSWERS = {"acquire": (0, 1, 2, 3, 4, 5, 6, 9, 10, 11), "release": (0, 1, 2, 3, 7, 9, 10, 11), "deliver": (0, 1, 8, 9, 10, 11)}
 ENDS = {"end": 0, "bad record": 12, "too long": 13}
+HANDLINGS = "no agent", "not a holder", "taken"
 
 
 class NotLines(Exception):
@@ -36,12 +37,13 @@ def thing(name):
 
 
 BYTE, CLIENT, MODE, FLAG = number(255), number(CLIENTS - 1), one_of(2, 3), one_of(True, False)
+HANDLING = or_null(one_of(*HANDLINGS))
 
 
 def record(kind, *fields):
-    """A record's line: its number and kind, its bytes, the answer, the state and what is counted in it."""
-    return {"n": number(65535), "kind": one_of(kind), **{field: BYTE for field in fields},
-            "answer": one_of(*ANSWERS[kind]), "state": or_null(thing("state")), "counts": or_null(thing("counts"))}
+    """A record's line: its number and kind, its bytes, the answer, the handling, the state and what is counted in it."""
+    return {"n": number(65535), "kind": one_of(kind), **{field: BYTE for field in fields}, "answer": one_of(*ANSWERS[kind]), "handling": HANDLING,
+            "state": or_null(thing("state")), "counts": or_null(thing("counts"))}
 
 
 FORMS = {
@@ -59,8 +61,8 @@ FORMS = {
                "ahead": or_null(number(CLIENTS - 1))},
     "packet": {"kind": one_of("ACQUIRE", "GRANT", "RELEASE", "FREE"), "to": or_null(number(MACHINES - 1)), "client": or_null(CLIENT),
                "mode": or_null(MODE), "granted": FLAG, "rejected": FLAG, "agent": or_null(thing("agent"))},
-    "end": {"end": one_of(*ENDS), "answer": one_of(*ENDS.values()), "records": number(65535), "drains": rows(thing("drain"), LOCKS)},
-    "drain": {"lock": number(LOCKS - 1), "answer": one_of(0, 9, 10, 11, 14), "count": number(16384)},
+    "end": {"end": one_of(*ENDS), "answer": one_of(*ENDS.values()), "records": number(65535), "handling": HANDLING, "drains": rows(thing("drain"), LOCKS)},
+    "drain": {"lock": number(LOCKS - 1), "answer": one_of(0, 9, 10, 11, 14), "count": number(16384), "handling": HANDLING},
 }
 
 
@@ -106,8 +108,9 @@ def shown(state):
 
 
 def whole_record(line):
-    """There is a state exactly where there is such a lock, and what is counted is what it has."""
-    return (line["state"] is None) == (line["answer"] == 1) and line["counts"] == shown(line["state"])["counts"]
+    """There is a state exactly where there is such a lock, and what is counted is what it has. Only an accepted delivery has a handling."""
+    return ((line["state"] is None) == (line["answer"] == 1) and line["counts"] == shown(line["state"])["counts"]
+            and (line["handling"] is None or line["kind"] == "deliver" and line["answer"] == 0))
 
 
 WHOLE = {
@@ -116,6 +119,7 @@ WHOLE = {
     "decider": lambda decider: (decider["mode"] == 0) == (decider["machine"] is None),
     "agent": lambda agent: agent["holders"] == sorted(set(agent["holders"])),
     "end": lambda end: end["answer"] == ENDS[end["end"]] and [drain["lock"] for drain in end["drains"]] == list(range(LOCKS)),
+    "drain": lambda drain: drain["handling"] is None or drain["count"] > 0,
 }
 
 
@@ -151,14 +155,15 @@ def in_order(line, number):
 
 
 def read(texts):
-    """Each line's object in order; the last line, and no other, is the end."""
-    line = None
+    """Each line's object in order; the last line, and no other, is the end, and has the last handling of the others."""
+    line = last = None
     for number, text in enumerate(texts, 1):
         if line and "end" in line:
             raise NotLines(f"line {number} stands behind the last line of inspect")
         line = parsed(text)
-        if line is None or not in_order(line, number):
+        if line is None or not in_order(line, number) or "end" in line and line["handling"] != last:
             raise NotLines(f"line {number} is not one that inspect writes (docs/inspect.md)")
+        last = line["handling"] or last
         yield line
     if line is None or "end" not in line:
         raise NotLines("the last line of inspect is missing (docs/inspect.md)")

@@ -183,9 +183,22 @@ def sent_back(step):
     return step.sent == [{**step.packet, "to": None}]
 
 
+def handled(step):
+    """The handling that the states show: whether the machine has an agent, and for a RELEASE whether that lists its client."""
+    if agent_before(step) is None:
+        return "no agent"
+    return "taken" if step.packet["kind"] == "ACQUIRE" or lists(agent_before(step), step.client) else "not a holder"
+
+
+def came_back(step):
+    """A request that is not taken goes back as it is, and no other does."""
+    step.need(sent_back(step) == (step.line["handling"] != "taken"))
+    return sent_back(step)
+
+
 def acquire_at_machine(step):
     of = client(step.client)
-    if sent_back(step):
+    if came_back(step):
         return [f"Machine {step.machine} has no agent: the {step.packet['kind']} goes back to the decider, unchanged, {at(step)}."]
     if lists(agent_after(step), step.client) and step.packet["granted"]:
         return [f"The agent on machine {step.machine} lists {of} and counts up to {agent_after(step)['incarnation']}."]
@@ -198,9 +211,8 @@ def acquire_at_machine(step):
 
 
 def release_at_machine(step):
-    if sent_back(step):
+    if came_back(step):
         return [f"{not_listed(step)}: the RELEASE goes back to the decider, unchanged, {at(step)}."]
-    step.need(lists(agent_before(step), step.client))
     return strikes_off(step)
 
 
@@ -210,7 +222,9 @@ AT_MACHINE = {"ACQUIRE": acquire_at_machine, "GRANT": grant_at_machine, "RELEASE
 
 
 def said(step):
-    """The sentences of the rule by which an accepted step went."""
+    """The sentences of the rule by which an accepted step went. Only a request at a machine has a handling."""
+    requested = step.packet is not None and step.packet["to"] is not None and step.packet["kind"] in ("ACQUIRE", "RELEASE")
+    step.need(step.line["handling"] == (handled(step) if requested else None))
     if step.packet is None:
         step.decider_is_as_it_was()
         return AT_CLIENT[step.line["kind"]](step)

@@ -184,7 +184,7 @@ fn main() {
     row("a full-size transcript", runs, 1.0);
     row("a question for a reason", questions_of(&busy, &cluster), f64::from(QUESTIONS));
     let drains = drains_of(&busy, &cluster);
-    let steps = cluster.drain(LockId(0)).expect("a drain ends");
+    let steps = cluster.drain(LockId(0)).expect("a drain ends").count;
     row(&format!("a drain of {steps} steps"), drains, f64::from(DRAINS));
     println!();
     println!("| what passing by value costs by itself | ns | the reference's whole work, ns | ratio |");

@@ -1,4 +1,4 @@
-//! The numbers that calls answer with.
+//! The numbers that calls answer with, and what a machine made of a packet.
 
 /// Why a call was refused; zero stands for an accepted call.
 #[derive(Clone, Copy, Debug, PartialEq, Eq)]
@@ -44,8 +44,48 @@ impl Refusal {
     }
 }
 
+/// What a machine made of an ACQUIRE or RELEASE that was delivered to it (document 02, §4).
+#[derive(Clone, Copy, Debug, Default, PartialEq, Eq)]
+pub enum Handling {
+    /// Of every other step.
+    #[default]
+    None,
+    /// No agent is here.
+    NoAgent,
+    /// An agent is here, but the client of the RELEASE is not among its holders.
+    NotHolder,
+    Taken,
+}
+
+impl Handling {
+    /// The byte of docs/random-runs.md.
+    pub fn number(self) -> u8 {
+        match self {
+            Handling::None => 0,
+            Handling::NoAgent => 1,
+            Handling::NotHolder => 2,
+            Handling::Taken => 3,
+        }
+    }
+
+    /// Makes the last one met out of that of the steps before; a step that has none changes nothing.
+    pub(crate) fn meet(&mut self, next: Handling) {
+        if next != Handling::None {
+            *self = next;
+        }
+    }
+}
+
 /// The outcome of a call that returns nothing but its answer.
 pub type Outcome = Result<(), Refusal>;
+
+/// The outcome of a delivery or of a record's step; a refused one has no handling.
+pub type StepOutcome = Result<Handling, Refusal>;
+
+/// The outcome of a step in which no packet comes to a machine.
+pub(crate) fn without_handling(outcome: Outcome) -> StepOutcome {
+    outcome.map(|()| Handling::None)
+}
 
 /// The answer number of any outcome.
 pub fn answer_number<T>(outcome: &Result<T, Refusal>) -> u8 {

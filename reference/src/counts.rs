@@ -103,7 +103,7 @@ impl LockState {
 }
 
 /// The words are made only where something is wrong.
-fn check(holds: bool, words: impl FnOnce() -> String) -> Result<(), String> {
+pub(crate) fn check(holds: bool, words: impl FnOnce() -> String) -> Result<(), String> {
     if holds {
         Ok(())
     } else {

@@ -1,10 +1,10 @@
-//! Delivery of a packet (document 01, 'At the decider' and 'At a machine'; document 02, §3).
+//! Delivery of a packet (document 01, 'At the decider' and 'At a machine'; document 02, §3 and §4).
 //!
 //! A delivery first chooses its action, which tests refusal 9, then counts the
 //! packets that the action sends, which tests refusal 10, and only then
 //! changes the lock state.
 
-use crate::answer::{Outcome, Refusal};
+use crate::answer::{Handling, Refusal, StepOutcome};
 use crate::model::{
     Address, Agent, ClientId, ClientStatus, Cluster, Decider, LockId, LockState, MachineId,
     Message, Mode, Owner, Packet, Waiter,
@@ -18,8 +18,8 @@ enum Action {
     CreateAgent,
     /// The decider grants a shared request and informs the agent.
     GrantShared(Owner),
-    /// The packet goes on to another address, otherwise as it is.
-    Forward(Address),
+    /// The decider sends the packet on to a machine, otherwise as it is.
+    Forward(MachineId),
     /// The decider accepts a FREE.
     FreeLock,
     /// The decider accepts a GRANT with agent.
@@ -30,6 +30,10 @@ enum Action {
     ShowGrant,
     /// A machine shows a client its grant and installs the agent with it.
     InstallAgent(MachineId),
+    /// A machine without an agent sends an ACQUIRE or RELEASE back.
+    SendBackWithoutAgent,
+    /// A machine sends back the RELEASE of a client that its agent does not list.
+    SendBackUnlisted,
     /// The agent lists the client of an ACQUIRE that the decider granted.
     ConfirmHolder(MachineId),
     /// The agent lists the client of a shared request and grants it.
@@ -42,21 +46,44 @@ enum Action {
     RestoreAgent(MachineId),
 }
 
+impl Action {
+    /// What a machine made of an ACQUIRE or RELEASE; no other packet, and nothing at the decider, has a handling.
+    fn handling(self) -> Handling {
+        match self {
+            Action::SendBackWithoutAgent => Handling::NoAgent,
+            Action::SendBackUnlisted => Handling::NotHolder,
+            Action::ConfirmHolder(_)
+            | Action::AddHolder(_)
+            | Action::Enqueue(_)
+            | Action::RemoveHolder(_) => Handling::Taken,
+            Action::CreateAgent
+            | Action::GrantShared(_)
+            | Action::Forward(_)
+            | Action::FreeLock
+            | Action::TransferAgent
+            | Action::RejectAgent(_)
+            | Action::ShowGrant
+            | Action::InstallAgent(_)
+            | Action::RestoreAgent(_) => Handling::None,
+        }
+    }
+}
+
 impl Cluster {
-    pub fn deliver(&mut self, lock: LockId, index: u8) -> Outcome {
+    pub fn deliver(&mut self, lock: LockId, index: u8) -> StepOutcome {
         self.check_well_formed()?;
         self.deliver_checked(lock, index)
     }
 
     /// A delivery on a cluster that is known to be well formed.
-    pub(crate) fn deliver_checked(&mut self, lock: LockId, index: u8) -> Outcome {
+    pub(crate) fn deliver_checked(&mut self, lock: LockId, index: u8) -> StepOutcome {
         let state = self.lock_mut(lock)?;
         state.deliver(usize::from(index))
     }
 }
 
 impl LockState {
-    pub(crate) fn deliver(&mut self, index: usize) -> Outcome {
+    pub(crate) fn deliver(&mut self, index: usize) -> StepOutcome {
         let packet = self.wire.get(index).ok_or(Refusal::IndexOutOfRange)?;
         let action = match packet.address {
             Address::Decider => self.decider.action_for(packet)?,
@@ -70,7 +97,7 @@ impl LockState {
             Address::Machine(_) => self.apply_at_machine(action, packet),
         }
         debug_assert_eq!(self.wire.len(), expected);
-        Ok(())
+        Ok(action.handling())
     }
 
     /// The number of packets that an action sends.
@@ -81,6 +108,8 @@ impl LockState {
             | Action::Forward(_)
             | Action::TransferAgent
             | Action::RejectAgent(_)
+            | Action::SendBackWithoutAgent
+            | Action::SendBackUnlisted
             | Action::AddHolder(_) => 1,
             Action::FreeLock
             | Action::ShowGrant
@@ -97,13 +126,14 @@ impl LockState {
 
     fn machine_action(&self, machine: MachineId, packet: &Packet) -> Result<Action, Refusal> {
         let installed = self.agents[machine.index()].as_ref();
-        let go_back = Action::Forward(Address::Decider);
         if let Some(carried) = &packet.agent {
             return carried_agent_action(machine, installed, carried, packet);
         }
         match (packet.message, installed) {
             (Message::Grant { .. }, _) => Ok(Action::ShowGrant),
-            (Message::Acquire { .. } | Message::Release { .. }, None) => Ok(go_back),
+            (Message::Acquire { .. } | Message::Release { .. }, None) => {
+                Ok(Action::SendBackWithoutAgent)
+            }
             (Message::Acquire { granted: true, .. }, Some(agent)) => match agent.mode {
                 Mode::Shared => Ok(Action::ConfirmHolder(machine)),
                 // What the decider granted is shared, so it cannot belong to an
@@ -124,7 +154,7 @@ impl LockState {
                 Ok(if is_listed {
                     Action::RemoveHolder(machine)
                 } else {
-                    go_back
+                    Action::SendBackUnlisted
                 })
             }
             (Message::Free, _) => unreachable!("a well-formed FREE carries an agent"),
@@ -135,8 +165,8 @@ impl LockState {
         match action {
             Action::CreateAgent => self.create_agent(packet.message),
             Action::GrantShared(owner) => self.grant_shared(owner, packet.message),
-            Action::Forward(address) => {
-                packet.address = address;
+            Action::Forward(machine) => {
+                packet.address = Address::Machine(machine);
                 self.wire.push(packet);
             }
             Action::FreeLock => self.decider = Decider::default(),
@@ -205,7 +235,10 @@ impl LockState {
     fn apply_at_machine(&mut self, action: Action, packet: Packet) {
         let client = packet.message.client();
         match (action, packet.message, client) {
-            (Action::Forward(address), ..) => self.wire.push(Packet { address, ..packet }),
+            (Action::SendBackWithoutAgent | Action::SendBackUnlisted, ..) => {
+                let address = Address::Decider;
+                self.wire.push(Packet { address, ..packet });
+            }
             (Action::RestoreAgent(machine), ..) => self.restore_agent(machine, packet),
             (Action::ShowGrant, Message::Grant { client, mode }, _) => {
                 self.clients[client.index()] = ClientStatus::Holding(mode);
@@ -276,7 +309,7 @@ impl LockState {
 impl Decider {
     fn action_for(&self, packet: &Packet) -> Result<Action, Refusal> {
         if let (Message::Grant { client, .. }, None) = (packet.message, &packet.agent) {
-            return Ok(Action::Forward(Address::Machine(client.machine())));
+            return Ok(Action::Forward(client.machine()));
         }
         let unmarked_mode = match packet.message {
             Message::Acquire { mode, granted, .. } if !granted => Some(mode),
@@ -293,7 +326,7 @@ impl Decider {
             return Ok(if both_shared {
                 Action::GrantShared(owner)
             } else {
-                Action::Forward(Address::Machine(owner.machine))
+                Action::Forward(owner.machine)
             });
         };
         // An agent that missed a shared grant must not leave. After a wrap it may

@@ -1,6 +1,6 @@
-//! The drain of one lock (document 01, 'Draining a lock').
+//! The drain of one lock (document 01, 'Draining a lock'; document 02, §4).
 
-use crate::answer::{Outcome, Refusal};
+use crate::answer::{without_handling, Handling, Refusal, StepOutcome};
 use crate::model::{ClientId, ClientStatus, Cluster, LockId, LockState, CLIENTS};
 
 /// A drain that needs more steps is refused with 14 (document 01, 'Zero and
@@ -12,25 +12,33 @@ enum DrainStep {
     Release(ClientId),
 }
 
+/// What an accepted drain gives; the default is what a refused one has.
+#[derive(Clone, Copy, Debug, Default, PartialEq, Eq)]
+pub struct Drained {
+    /// The number of steps.
+    pub count: u16,
+    /// The last handling that a step had, or none.
+    pub handling: Handling,
+}
+
 impl Cluster {
-    /// Drains a lock and returns the number of steps; a refused drain leaves
-    /// the cluster as given.
-    pub fn drain(&mut self, lock: LockId) -> Result<u16, Refusal> {
-        self.drain_with(lock, |_, _| ())
+    /// Drains a lock; a refused drain leaves the cluster as given.
+    pub fn drain(&mut self, lock: LockId) -> Result<Drained, Refusal> {
+        self.drain_with(lock, |_, _, _| ())
     }
 
-    /// Drains a lock and shows its state after every step, with the step's number.
+    /// Drains a lock and shows its state after every step, with the step's number and handling.
     pub fn drain_with(
         &mut self,
         lock: LockId,
-        show: impl FnMut(u16, &LockState),
-    ) -> Result<u16, Refusal> {
+        show: impl FnMut(u16, Handling, &LockState),
+    ) -> Result<Drained, Refusal> {
         self.check_well_formed()?;
         let state = self.lock_mut(lock)?;
         let mut drained = state.clone();
-        let steps = drained.drain(show)?;
+        let outcome = drained.drain(show)?;
         *state = drained;
-        Ok(steps)
+        Ok(outcome)
     }
 }
 
@@ -40,17 +48,21 @@ impl LockState {
         self.next_drain_step().is_none()
     }
 
-    fn drain(&mut self, mut show: impl FnMut(u16, &LockState)) -> Result<u16, Refusal> {
-        let mut steps = 0;
+    fn drain(
+        &mut self,
+        mut show: impl FnMut(u16, Handling, &LockState),
+    ) -> Result<Drained, Refusal> {
+        let mut drained = Drained::default();
         while let Some(step) = self.next_drain_step() {
-            if steps == DRAIN_LIMIT {
+            if drained.count == DRAIN_LIMIT {
                 return Err(Refusal::NotQuiescent);
             }
-            self.perform(step)?;
-            steps += 1;
-            show(steps, self);
+            let handling = self.perform(step)?;
+            drained.count += 1;
+            drained.handling.meet(handling);
+            show(drained.count, handling, self);
         }
-        Ok(steps)
+        Ok(drained)
     }
 
     /// Packets before holders, the oldest packet and the lowest holder first;
@@ -64,10 +76,10 @@ impl LockState {
         Some(DrainStep::Release(ClientId(lowest as u8)))
     }
 
-    fn perform(&mut self, step: DrainStep) -> Outcome {
+    fn perform(&mut self, step: DrainStep) -> StepOutcome {
         match step {
             DrainStep::DeliverOldest => self.deliver(0),
-            DrainStep::Release(client) => self.release(client),
+            DrainStep::Release(client) => without_handling(self.release(client)),
         }
     }
 }

@@ -1,8 +1,9 @@
 //! The lines of inspect.md: one JSON object for each record of a transcript,
 //! with the state of its lock, and one for the end.
 
-use crate::answer::{answer_number, Outcome, Refusal};
+use crate::answer::{answer_number, Handling, Refusal, StepOutcome};
 use crate::counts::Counts;
+use crate::drain::Drained;
 use crate::model::{
     Address, Agent, ClientId, ClientStatus, Cluster, Decider, LockId, LockState, Message, Mode,
     Packet, Waiter, CLIENTS, LOCKS,
@@ -29,16 +30,19 @@ pub fn inspect(bytes: &[u8], out: &mut dyn Write) -> io::Result<()> {
 fn record_line(
     number: usize,
     record: &Record,
-    outcome: Outcome,
+    outcome: StepOutcome,
     cluster: &Cluster,
     out: &mut dyn Write,
 ) -> io::Result<()> {
     let (call, answer) = (Json(record), answer_number(&outcome));
+    let handling = outcome.unwrap_or_default();
+    let handling = Json(&handling);
     // A lock out of range has no state, and nothing to count.
     let state = cluster.locks.get(record.lock().index());
     let counts = state.map(Counts::of);
     let (state, counts) = (OrNull(state.map(Json)), OrNull(counts.as_ref().map(Json)));
     write!(out, r#"{{"n":{number},{call},"answer":{answer},"#)?;
+    write!(out, r#""handling":{handling},"#)?;
     writeln!(out, r#""state":{state},"counts":{counts}}}"#)
 }
 
@@ -50,20 +54,23 @@ fn end_line(outcome: TranscriptOutcome, cluster: &Cluster, out: &mut dyn Write) 
         Err(_) => unreachable!("a fresh cluster is well formed"),
     };
     let (answer, records) = (answer_number(&outcome.answer), outcome.record);
+    let handling = Json(&outcome.handling);
     let drains = List((0..LOCKS as u8).map(|lock| drain_object(LockId(lock), cluster)));
-    writeln!(
+    write!(
         out,
-        r#"{{"end":"{end}","answer":{answer},"records":{records},"drains":[{drains}]}}"#
-    )
+        r#"{{"end":"{end}","answer":{answer},"records":{records},"#
+    )?;
+    writeln!(out, r#""handling":{handling},"drains":[{drains}]}}"#)
 }
 
 /// What draining one lock gives, on a copy, so that no drain sees another.
 fn drain_object(lock: LockId, cluster: &Cluster) -> String {
     let outcome = cluster.clone().drain(lock);
     let (lock, answer) = (lock.0, answer_number(&outcome));
-    // A refused drain counts 0 (document 01, 'Zero and the refusals').
-    let count = outcome.unwrap_or(0);
-    format!(r#"{{"lock":{lock},"answer":{answer},"count":{count}}}"#)
+    // A refused drain counts 0 (document 01, 'Zero and the refusals') and has no handling.
+    let Drained { count, handling } = outcome.unwrap_or_default();
+    let handling = Json(&handling);
+    format!(r#"{{"lock":{lock},"answer":{answer},"count":{count},"handling":{handling}}}"#)
 }
 
 /// A part of the state, or of a record, that is shown in JSON.
@@ -124,6 +131,17 @@ impl fmt::Display for Json<'_, Record> {
                 write!(f, r#""kind":"deliver","lock":{lock},"index":{index}"#)
             }
         }
+    }
+}
+
+impl fmt::Display for Json<'_, Handling> {
+    fn fmt(&self, f: &mut fmt::Formatter) -> fmt::Result {
+        f.write_str(match self.0 {
+            Handling::None => "null",
+            Handling::NoAgent => r#""no agent""#,
+            Handling::NotHolder => r#""not a holder""#,
+            Handling::Taken => r#""taken""#,
+        })
     }
 }
 

@@ -10,6 +10,7 @@ mod delivery;
 pub mod digest;
 mod drain;
 pub mod generator;
+pub mod handlings;
 pub mod inspect;
 pub mod installations;
 pub mod model;
@@ -23,5 +24,5 @@ mod requests;
 pub mod transcript;
 mod well_formed;
 
-pub use answer::{answer_number, Outcome, Refusal};
-pub use drain::DRAIN_LIMIT;
+pub use answer::{answer_number, Handling, Outcome, Refusal, StepOutcome};
+pub use drain::{Drained, DRAIN_LIMIT};

@@ -2,6 +2,7 @@
 
 use reference::generator::SEED_LIMIT;
 use reference::inspect::inspect;
+use reference::random_calls::{DELIVER, DRAIN, TRANSCRIPT};
 use reference::random_runs::{random_run, FIRST_RUN, LAST_RUN};
 use reference::random_states::{random_state, FIRST_STATE, LAST_STATE};
 use reference::random_transcripts::{
@@ -96,14 +97,15 @@ fn bytes(make: fn(u64) -> Vec<u8>, seed: &str, out: &mut dyn Write) -> io::Resul
     out.write_all(&make(parse_seed(seed)?))
 }
 
-/// How often each kind of call met each answer, from 0 to 15.
+/// How often each kind of call met each answer, from 0 to 15, and what the tests met.
 fn counts(out: &mut dyn Write) -> io::Result<()> {
+    // With the calls of each part that may have a handling.
     let parts = [
-        ("runs", RUNS),
-        ("states", STATES),
-        ("transcripts", TRANSCRIPTS),
+        ("runs", RUNS, [DELIVER, DRAIN]),
+        ("states", STATES, [DELIVER, DRAIN]),
+        ("transcripts", TRANSCRIPTS, [DELIVER, TRANSCRIPT]),
     ];
-    for (name, (run, all)) in parts {
+    for (name, (run, all), handling_calls) in parts {
         let mut nowhere = io::sink();
         let mut report = Report::new(&mut nowhere, false);
         for seed in all {
@@ -133,6 +135,9 @@ fn counts(out: &mut dyn Write) -> io::Result<()> {
             out,
             "{name} tested installations {tested} readers kept {kept}"
         )?;
+        for kind in handling_calls {
+            writeln!(out, "{name} {}", tally.handled_line(kind))?;
+        }
     }
     Ok(())
 }

@@ -1,14 +1,16 @@
 //! How a step of a random run chooses its call (docs/random-runs.md).
 
-use crate::answer::{Outcome, Refusal};
-use crate::installations::Installation;
+use crate::answer::{without_handling, Refusal, StepOutcome};
 use crate::model::{
     Address, ClientId, ClientStatus, Cluster, LockId, LockState, MachineId, Message, Mode, Packet,
     TaskId, LOCKS,
 };
 use crate::reasons::Reason;
+use crate::report::Incoming;
 use std::fmt;
 
+/// No step chooses this kind; it stands for a whole transcript.
+pub const TRANSCRIPT: u8 = 0;
 pub const ACQUIRE: u8 = 1;
 pub const RELEASE: u8 = 2;
 pub const DELIVER: u8 = 3;
@@ -201,20 +203,20 @@ fn wild_call(outputs: &[u64; 8]) -> Call {
 }
 
 impl Call {
-    pub fn perform(&self, cluster: &mut Cluster) -> Outcome {
+    pub fn perform(&self, cluster: &mut Cluster) -> StepOutcome {
+        let (lock, machine, task) = (self.lock, self.machine, self.task);
         match self.kind {
-            ACQUIRE => cluster.acquire(self.lock, self.machine, self.task, self.mode),
-            RELEASE => cluster.release(self.lock, self.machine, self.task),
-            _ => cluster.deliver(self.lock, self.index),
+            ACQUIRE => without_handling(cluster.acquire(lock, machine, task, self.mode)),
+            RELEASE => without_handling(cluster.release(lock, machine, task)),
+            _ => cluster.deliver(lock, self.index),
         }
     }
 
-    /// What the call is to install; no kind but a delivery brings an agent.
-    pub fn installation(&self, cluster: &Cluster) -> Option<Installation> {
-        let state = cluster.locks.get(self.lock.index())?;
+    /// What the call is to bring a machine; no kind but a delivery does.
+    pub fn incoming(&self, cluster: &Cluster) -> Incoming {
         match self.kind {
-            DELIVER => Installation::at(state, usize::from(self.index)),
-            _ => None,
+            DELIVER => Incoming::of_delivery(cluster, self.lock, self.index),
+            _ => Incoming::default(),
         }
     }
 

@@ -1,13 +1,14 @@
 //! Random runs of calls and drains (docs/random-runs.md).
 
-use crate::answer::{answer_number, Outcome};
+use crate::answer::{answer_number, Handling, Refusal, StepOutcome};
 use crate::digest::Digest;
+use crate::drain::Drained;
 use crate::generator::Generator;
-use crate::installations::Installation;
+use crate::handlings::StepHandlings;
 use crate::model::{ClientId, Cluster, LockId, LockState};
 use crate::random_calls::{Call, Profile, DRAIN, REASON};
 use crate::reasons::reason_numbers;
-use crate::report::{Observation, Report, Tally};
+use crate::report::{Incoming, Observation, Report, Tally};
 use std::io;
 
 pub const FIRST_RUN: u64 = 1;
@@ -30,6 +31,33 @@ pub struct Run {
     step: u64,
     accepted: u64,
     is_tested: bool,
+}
+
+/// What a call or a drain gave, for the digest and the line; a call counts 0.
+#[derive(Clone, Copy)]
+struct Given {
+    answer: u8,
+    handling: Handling,
+    count: u16,
+}
+
+impl Given {
+    fn of_call(outcome: StepOutcome) -> Self {
+        Given {
+            answer: answer_number(&outcome),
+            handling: outcome.unwrap_or_default(),
+            count: 0,
+        }
+    }
+
+    fn of_drain(outcome: Result<Drained, Refusal>) -> Self {
+        let Drained { count, handling } = outcome.unwrap_or_default();
+        Given {
+            answer: answer_number(&outcome),
+            handling,
+            count,
+        }
+    }
 }
 
 /// Runs one seed of `runs`.
@@ -96,20 +124,25 @@ impl Run {
             self.drain(Call { kind, ..call }, report)?;
         }
         let before = Observation::of(&self.cluster, call.lock);
-        let installation = call.installation(&self.cluster);
+        let incoming = call.incoming(&self.cluster);
         let outcome = call.perform(&mut self.cluster);
         let after = Observation::of(&self.cluster, call.lock);
         report.tally.compare(before, after);
-        let answer = answer_number(&outcome);
-        report.tally.count(call.kind, answer);
+        let given = Given::of_call(outcome);
+        report.tally.count(call.kind, given.answer);
         self.accepted += u64::from(outcome.is_ok());
-        self.digest.bytes(&[call.kind, answer]);
+        self.digest_given(call.kind, given);
         let asked = self.ask_reason(call, report);
         if self.step.is_multiple_of(CLUSTER_STEPS) {
             self.digest.cluster(&self.cluster);
         }
-        self.step_line(call, answer, 0, &self.cluster, &asked, report)?;
-        self.test_call(call, &outcome, installation, report)
+        self.step_line(call, given, &self.cluster, &asked, report)?;
+        self.test_call(call, &outcome, given.handling, incoming, report)
+    }
+
+    fn digest_given(&mut self, kind: u8, given: Given) {
+        let handling = given.handling.number();
+        self.digest.bytes(&[kind, given.answer, handling]);
     }
 
     /// Asks why the chosen client waits; the numbers go into the digest and into the line.
@@ -129,29 +162,13 @@ impl Run {
     /// A drain on a copy, which the run keeps or forgets by its seed.
     fn drain(&mut self, call: Call, report: &mut Report) -> io::Result<()> {
         let mut drained = self.cluster.clone();
-        let mut tested = Ok(());
-        let state = self.cluster.locks.get(call.lock.index());
-        // Of the packets a drain delivers only the oldest (document 01, 'Draining a lock').
-        let mut next = state.and_then(|state| Installation::at(state, 0));
-        let outcome = drained.drain_with(call.lock, |number, state| {
-            // A drain cannot be stopped from here; after a failure it goes on untested.
-            if tested.is_ok() {
-                let result = self.test_drain_step(next.take(), state, &mut report.tally);
-                tested = result.map_err(|broken| format!("drain step {number}: {broken}"));
-            }
-            next = Installation::at(state, 0);
-        });
-        if self.is_tested {
-            // The last step has tested the state already.
-            tested = tested.and_then(|()| report.tally.test_call(call.kind, &outcome, None));
-        }
-        let (answer, count) = (answer_number(&outcome), outcome.unwrap_or(0));
-        report.tally.count(call.kind, answer);
-        report.tally.count_drain(count);
-        self.digest.bytes(&[call.kind, answer]);
-        self.digest.bytes(&count.to_le_bytes());
+        let (given, tested) = self.tested_drain(call, &mut drained, &mut report.tally);
+        report.tally.count(call.kind, given.answer);
+        report.tally.count_drain(given.count);
+        self.digest_given(call.kind, given);
+        self.digest.bytes(&given.count.to_le_bytes());
         self.digest.cluster(&drained);
-        self.step_line(call, answer, count, &drained, &[], report)?;
+        self.step_line(call, given, &drained, &[], report)?;
         self.stop_if_broken(call.lock, tested)?;
         if self.seed / 16 % 2 == 1 {
             self.cluster = drained;
@@ -159,13 +176,48 @@ impl Run {
         Ok(())
     }
 
+    /// Drains a lock of the copy, and tests each step and what the drain gives.
+    fn tested_drain(
+        &self,
+        call: Call,
+        drained: &mut Cluster,
+        tally: &mut Tally,
+    ) -> (Given, Result<(), String>) {
+        let mut tested = Ok(());
+        let mut steps = StepHandlings::default();
+        // Of the packets a drain delivers only the oldest (document 01, 'Draining a lock').
+        let mut next = Incoming::of_delivery(drained, call.lock, 0);
+        let outcome = drained.drain_with(call.lock, |number, handling, state| {
+            let incoming = std::mem::replace(&mut next, Incoming::at(state, 0));
+            // A drain cannot be stopped from here; after a failure it goes on untested.
+            if tested.is_ok() {
+                let result = self.test_drain_step(incoming, handling, state, &mut steps, tally);
+                tested = result.map_err(|broken| format!("drain step {number}: {broken}"));
+            }
+        });
+        let given = Given::of_drain(outcome);
+        if outcome.is_err() {
+            // As if the steps had not been.
+            steps = StepHandlings::default();
+        }
+        tested = tested.and_then(|()| tally.test_last_handling(call.kind, &steps, given.handling));
+        if self.is_tested {
+            // The last step has tested the state already.
+            tested = tested.and_then(|()| tally.test_call(call.kind, &outcome, None));
+        }
+        (given, tested)
+    }
+
     fn test_drain_step(
         &self,
-        installation: Option<Installation>,
+        incoming: Incoming,
+        handling: Handling,
         state: &LockState,
+        steps: &mut StepHandlings,
         tally: &mut Tally,
     ) -> Result<(), String> {
-        tally.test_installation(installation, Some(state))?;
+        tally.test_installation(incoming.installation, Some(state))?;
+        steps.test_step(incoming.arrival.as_ref(), handling, state)?;
         if self.is_tested {
             tally.test_state(state)?;
         }
@@ -175,15 +227,17 @@ impl Run {
     fn test_call(
         &self,
         call: Call,
-        outcome: &Outcome,
-        installation: Option<Installation>,
+        outcome: &StepOutcome,
+        handling: Handling,
+        incoming: Incoming,
         report: &mut Report,
     ) -> io::Result<()> {
         let state = self.cluster.locks.get(call.lock.index());
         let tally = &mut report.tally;
-        // A refused call has installed nothing.
-        let installation = installation.filter(|_| outcome.is_ok());
-        let mut tested = tally.test_installation(installation, state);
+        let incoming = incoming.if_accepted(outcome);
+        let mut tested = tally.test_installation(incoming.installation, state);
+        tested =
+            tested.and_then(|()| tally.test_handling(call.kind, incoming.arrival, handling, state));
         if self.is_tested {
             tested = tested.and_then(|()| tally.test_call(call.kind, outcome, state));
         }
@@ -201,8 +255,7 @@ impl Run {
     fn step_line(
         &self,
         call: Call,
-        answer: u8,
-        count: u16,
+        given: Given,
         cluster: &Cluster,
         asked: &[u8],
         report: &mut Report,
@@ -216,10 +269,9 @@ impl Run {
         let (digest, alone) = (self.digest.value(), alone.value());
         write!(report.out, "{label} {seed} step {step} {call} ")?;
         let out = &mut report.out;
-        write!(
-            out,
-            "answer {answer} count {count} digest {digest} cluster {alone}"
-        )?;
+        let (answer, handling, count) = (given.answer, given.handling.number(), given.count);
+        write!(out, "answer {answer} handling {handling} ")?;
+        write!(out, "count {count} digest {digest} cluster {alone}")?;
         if !asked.is_empty() {
             write!(out, " reason")?;
         }

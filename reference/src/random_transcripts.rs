@@ -3,10 +3,10 @@
 use crate::answer::answer_number;
 use crate::digest::Digest;
 use crate::generator::Generator;
-use crate::installations::Installation;
+use crate::handlings::StepHandlings;
 use crate::model::Cluster;
-use crate::random_calls::{Call, Profile, ACQUIRE, RELEASE};
-use crate::report::Report;
+use crate::random_calls::{Call, Profile, ACQUIRE, RELEASE, TRANSCRIPT};
+use crate::report::{Incoming, Report};
 use crate::transcript::{listing, Record, TRANSCRIPT_LIMIT};
 use std::io;
 
@@ -47,16 +47,20 @@ fn count_answers(seed: u64, bytes: &[u8], report: &mut Report) -> io::Result<()>
     let tally = &mut report.tally;
     let mut tested = Ok(());
     let mut before = Cluster::new();
+    let mut steps = StepHandlings::default();
     let whole = Cluster::new().run_transcript_with(bytes, |number, record, outcome, cluster| {
         let (kind, lock) = (record.kind() as u8, record.lock());
         tally.count(kind, answer_number(&outcome));
         // A transcript cannot be stopped from here; after a failure it goes on untested.
         if tested.is_ok() {
             let state = cluster.locks.get(lock.index());
-            // A refused record has installed nothing.
-            let installation = installation(record, &before).filter(|_| outcome.is_ok());
-            let result = tally.test_installation(installation, state);
-            let result = result.and_then(|()| tally.test_call(kind, &outcome, state));
+            let handling = outcome.unwrap_or_default();
+            steps.push(handling);
+            let incoming = incoming(record, &before).if_accepted(&outcome);
+            let result = tally.test_installation(incoming.installation, state);
+            let result = result
+                .and_then(|()| tally.test_handling(kind, incoming.arrival, handling, state))
+                .and_then(|()| tally.test_call(kind, &outcome, state));
             tested = result.map_err(|broken| {
                 let place = format!("transcript {seed} record {number} lock {}", lock.0);
                 io::Error::other(format!("{place}: {broken}"))
@@ -64,18 +68,17 @@ fn count_answers(seed: u64, bytes: &[u8], report: &mut Report) -> io::Result<()>
         }
         follow(record, cluster, &mut before);
     });
-    tally.count(0, answer_number(&whole.answer));
-    tested
+    tally.count(TRANSCRIPT, answer_number(&whole.answer));
+    tested?;
+    let result = tally.test_last_handling(TRANSCRIPT, &steps, whole.handling);
+    result.map_err(|broken| io::Error::other(format!("transcript {seed}: {broken}")))
 }
 
-/// What a record is to install, on the cluster before it.
-fn installation(record: &Record, before: &Cluster) -> Option<Installation> {
+/// What a record is to bring a machine, on the cluster before it.
+fn incoming(record: &Record, before: &Cluster) -> Incoming {
     match *record {
-        Record::Deliver(lock, index) => {
-            let state = before.locks.get(lock.index())?;
-            Installation::at(state, usize::from(index))
-        }
-        Record::Acquire(..) | Record::Release(..) => None,
+        Record::Deliver(lock, index) => Incoming::of_delivery(before, lock, index),
+        Record::Acquire(..) | Record::Release(..) => Incoming::default(),
     }
 }
 

@@ -1,7 +1,8 @@
 //! Where the lines of random runs go, and what was met on the way.
 
-use crate::answer::Refusal;
+use crate::answer::{Handling, Refusal};
 use crate::counts::Counts;
+use crate::handlings::{check_step, Arrival, StepHandlings};
 use crate::installations::Installation;
 use crate::model::{Cluster, LockId, LockState, WIRE_CAPACITY};
 use crate::reasons::{Reason, REASON_KINDS};
@@ -17,6 +18,7 @@ pub const KINDS: [&str; 6] = [
     "reason",
 ];
 const ANSWERS: usize = 16;
+const HANDLINGS: usize = 4;
 
 /// How often each kind of call met each answer, and some extremes.
 #[derive(Clone, Debug, Default)]
@@ -39,6 +41,8 @@ pub struct Tally {
     /// How many installations were tested, and at how many a reader stayed in the queue of a shared agent.
     pub tested_installations: u64,
     pub readers_kept: u64,
+    /// How often each kind of call gave each handling, none too.
+    pub handled: [[u64; HANDLINGS]; KINDS.len()],
 }
 
 impl Tally {
@@ -102,6 +106,72 @@ impl Tally {
             self.readers_kept += u64::from(installation.check(after)?);
         }
         Ok(())
+    }
+
+    /// Tests the handling of a call or a record, and counts it; hand-made states pass this test too.
+    pub fn test_handling(
+        &mut self,
+        kind: u8,
+        arrival: Option<Arrival>,
+        handling: Handling,
+        after: Option<&LockState>,
+    ) -> Result<(), String> {
+        self.count_handling(kind, handling);
+        check_step(arrival.as_ref(), handling, after)
+    }
+
+    /// The same of what a drain or a transcript gives, by the handlings of its steps.
+    pub fn test_last_handling(
+        &mut self,
+        kind: u8,
+        steps: &StepHandlings,
+        handling: Handling,
+    ) -> Result<(), String> {
+        self.count_handling(kind, handling);
+        steps.check_last(handling)
+    }
+
+    fn count_handling(&mut self, kind: u8, handling: Handling) {
+        self.handled[usize::from(kind)][usize::from(handling.number())] += 1;
+    }
+
+    /// How often a kind of call gave each handling, in words.
+    pub fn handled_line(&self, kind: u8) -> String {
+        let (call, handled) = (KINDS[usize::from(kind)], self.handled[usize::from(kind)]);
+        let [_, no_agent, not_holder, taken] = handled;
+        format!("handled {call} no-agent {no_agent} not-holder {not_holder} taken {taken}")
+    }
+}
+
+/// What the tests of a step need of the state before it.
+#[derive(Clone, Debug, Default)]
+pub struct Incoming {
+    pub installation: Option<Installation>,
+    pub arrival: Option<Arrival>,
+}
+
+impl Incoming {
+    /// What the delivery of an index is to bring a machine.
+    pub fn at(state: &LockState, index: usize) -> Self {
+        Incoming {
+            installation: Installation::at(state, index),
+            arrival: Arrival::at(state, index),
+        }
+    }
+
+    /// The same for a lock that may be out of range.
+    pub fn of_delivery(cluster: &Cluster, lock: LockId, index: u8) -> Self {
+        let state = cluster.locks.get(lock.index());
+        let incoming = state.map(|state| Incoming::at(state, usize::from(index)));
+        incoming.unwrap_or_default()
+    }
+
+    /// A refused step brings nothing.
+    pub fn if_accepted<T>(self, outcome: &Result<T, Refusal>) -> Self {
+        match outcome {
+            Ok(_) => self,
+            Err(_) => Incoming::default(),
+        }
     }
 }
 

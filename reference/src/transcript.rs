@@ -1,7 +1,7 @@
 //! Transcripts: reading records, running them, and the listing (document 01,
-//! 'Transcripts and the desk program').
+//! 'Transcripts and the desk program'; document 02, §4).
 
-use crate::answer::{answer_number, Outcome, Refusal};
+use crate::answer::{answer_number, without_handling, Handling, Outcome, Refusal, StepOutcome};
 use crate::model::{Cluster, LockId, MachineId, TaskId};
 use std::fmt::Write;
 
@@ -38,24 +38,28 @@ impl Record {
         }
     }
 
-    pub fn run(&self, cluster: &mut Cluster) -> Outcome {
+    pub fn run(&self, cluster: &mut Cluster) -> StepOutcome {
         match *self {
             Record::Acquire(lock, machine, task, mode) => {
-                cluster.acquire(lock, machine, task, mode)
+                without_handling(cluster.acquire(lock, machine, task, mode))
             }
-            Record::Release(lock, machine, task) => cluster.release(lock, machine, task),
+            Record::Release(lock, machine, task) => {
+                without_handling(cluster.release(lock, machine, task))
+            }
             Record::Deliver(lock, index) => cluster.deliver(lock, index),
         }
     }
 
     /// The same on a cluster that is known to be well formed: each call keeps
     /// it so, and a run tests it once.
-    fn run_checked(&self, cluster: &mut Cluster) -> Outcome {
+    fn run_checked(&self, cluster: &mut Cluster) -> StepOutcome {
         match *self {
             Record::Acquire(lock, machine, task, mode) => {
-                cluster.acquire_checked(lock, machine, task, mode)
+                without_handling(cluster.acquire_checked(lock, machine, task, mode))
             }
-            Record::Release(lock, machine, task) => cluster.release_checked(lock, machine, task),
+            Record::Release(lock, machine, task) => {
+                without_handling(cluster.release_checked(lock, machine, task))
+            }
             Record::Deliver(lock, index) => cluster.deliver_checked(lock, index),
         }
     }
@@ -119,11 +123,13 @@ impl Iterator for Records<'_> {
 }
 
 /// The outcome of a whole transcript. `record` is how many records an accepted
-/// one has, or which record is bad, and 0 for any other refusal.
+/// one has, or which record is bad, and 0 for any other refusal. `handling` is
+/// the last one of the records that were run, or none.
 #[derive(Clone, Copy, Debug, PartialEq, Eq)]
 pub struct TranscriptOutcome {
     pub answer: Outcome,
     pub record: usize,
+    pub handling: Handling,
 }
 
 impl Cluster {
@@ -136,30 +142,31 @@ impl Cluster {
     pub fn run_transcript_with(
         &mut self,
         bytes: &[u8],
-        mut show: impl FnMut(usize, &Record, Outcome, &Cluster),
+        mut show: impl FnMut(usize, &Record, StepOutcome, &Cluster),
     ) -> TranscriptOutcome {
-        if let Err(refusal) = self.check_transcript(bytes) {
-            let answer = Err(refusal);
-            return TranscriptOutcome { answer, record: 0 };
+        let mut whole = TranscriptOutcome {
+            answer: self.check_transcript(bytes),
+            record: 0,
+            handling: Handling::None,
+        };
+        if whole.answer.is_err() {
+            return whole;
         }
-        let mut record = 0;
         for read in Records::new(bytes) {
-            record += 1;
+            whole.record += 1;
             match read {
                 // Refused or accepted, the next record follows (document 01,
                 // 'Zero and the refusals').
                 Ok(step) => {
                     let outcome = step.run_checked(self);
-                    show(record, &step, outcome, self);
+                    whole.handling.meet(outcome.unwrap_or_default());
+                    show(whole.record, &step, outcome, self);
                 }
-                Err(refusal) => {
-                    let answer = Err(refusal);
-                    return TranscriptOutcome { answer, record };
-                }
+                // No record follows a bad one.
+                Err(refusal) => whole.answer = Err(refusal),
             }
         }
-        let answer = Ok(());
-        TranscriptOutcome { answer, record }
+        whole
     }
 
     /// Refusal 11, then 13, for the whole transcript (document 01, 'Zero and

@@ -11,10 +11,10 @@ use std::process::{Command, Stdio};
 const IDLE: &str = r#"{"status":"idle","mode":null,"reason":null}"#;
 
 const REST: &str = concat!(
-    r#"{"lock":1,"answer":0,"count":0},{"lock":2,"answer":0,"count":0},"#,
-    r#"{"lock":3,"answer":0,"count":0},{"lock":4,"answer":0,"count":0},"#,
-    r#"{"lock":5,"answer":0,"count":0},{"lock":6,"answer":0,"count":0},"#,
-    r#"{"lock":7,"answer":0,"count":0}"#
+    r#"{"lock":1,"answer":0,"count":0,"handling":null},{"lock":2,"answer":0,"count":0,"handling":null},"#,
+    r#"{"lock":3,"answer":0,"count":0,"handling":null},{"lock":4,"answer":0,"count":0,"handling":null},"#,
+    r#"{"lock":5,"answer":0,"count":0,"handling":null},{"lock":6,"answer":0,"count":0,"handling":null},"#,
+    r#"{"lock":7,"answer":0,"count":0,"handling":null}"#
 );
 
 /// 0/0 asks for lock 0, shared, and gets it.
@@ -25,7 +25,7 @@ const TAKE: [u8; 20] = [
 ];
 
 const TAKE_LINES: &str = r#"
-{"n":1,"kind":"acquire","lock":0,"machine":0,"task":0,"mode":3,"answer":0,"state":{
+{"n":1,"kind":"acquire","lock":0,"machine":0,"task":0,"mode":3,"answer":0,"handling":null,"state":{
  "decider":{"mode":0,"machine":null,"incarnation":0},
  "agents":[null,null,null,null],
  "clients":[{"status":"waiting","mode":3,
@@ -34,7 +34,7 @@ const TAKE_LINES: &str = r#"
  "wire":[{"kind":"ACQUIRE","to":null,"client":0,"mode":3,
  "granted":false,"rejected":false,"agent":null}]},
  "counts":{"agents":0,"marked":0}}
-{"n":2,"kind":"deliver","lock":0,"index":0,"answer":0,"state":{
+{"n":2,"kind":"deliver","lock":0,"index":0,"answer":0,"handling":null,"state":{
  "decider":{"mode":3,"machine":0,"incarnation":0},
  "agents":[null,null,null,null],
  "clients":[{"status":"waiting","mode":3,
@@ -44,7 +44,7 @@ const TAKE_LINES: &str = r#"
  "granted":false,"rejected":false,
  "agent":{"mode":3,"holders":[],"queue":[],"incarnation":0}}]},
  "counts":{"agents":1,"marked":0}}
-{"n":3,"kind":"deliver","lock":0,"index":0,"answer":0,"state":{
+{"n":3,"kind":"deliver","lock":0,"index":0,"answer":0,"handling":null,"state":{
  "decider":{"mode":3,"machine":0,"incarnation":0},
  "agents":[{"mode":3,"holders":[0],"queue":[],"incarnation":0},null,null,null],
  "clients":[{"status":"holding","mode":3,"reason":null},IDLE,IDLE,IDLE,
@@ -60,7 +60,7 @@ const SHARE: [u8; 14] = [
 ];
 
 const SHARE_LINES: &str = r#"
-{"n":4,"kind":"acquire","lock":0,"machine":1,"task":0,"mode":3,"answer":0,"state":{
+{"n":4,"kind":"acquire","lock":0,"machine":1,"task":0,"mode":3,"answer":0,"handling":null,"state":{
  "decider":{"mode":3,"machine":0,"incarnation":0},
  "agents":[{"mode":3,"holders":[0],"queue":[],"incarnation":0},null,null,null],
  "clients":[{"status":"holding","mode":3,"reason":null},IDLE,IDLE,IDLE,
@@ -70,7 +70,7 @@ const SHARE_LINES: &str = r#"
  "wire":[{"kind":"ACQUIRE","to":null,"client":4,"mode":3,
  "granted":false,"rejected":false,"agent":null}]},
  "counts":{"agents":1,"marked":0}}
-{"n":5,"kind":"deliver","lock":0,"index":0,"answer":0,"state":{
+{"n":5,"kind":"deliver","lock":0,"index":0,"answer":0,"handling":null,"state":{
  "decider":{"mode":3,"machine":0,"incarnation":1},
  "agents":[{"mode":3,"holders":[0],"queue":[],"incarnation":0},null,null,null],
  "clients":[{"status":"holding","mode":3,"reason":null},IDLE,IDLE,IDLE,
@@ -119,7 +119,7 @@ fn a_line_in_full() {
     let bytes = [8, 0, 1, 0, 5, 3, 2, 2];
     let expected = concat!(
         r#"{"n":1,"kind":"acquire","lock":5,"machine":3,"task":2,"mode":2,"answer":0,"#,
-        r#""state":{"decider":{"mode":0,"machine":null,"incarnation":0},"#,
+        r#""handling":null,"state":{"decider":{"mode":0,"machine":null,"incarnation":0},"#,
         r#""agents":[null,null,null,null],"clients":["#,
         r#"{"status":"idle","mode":null,"reason":null},{"status":"idle","mode":null,"reason":null},"#,
         r#"{"status":"idle","mode":null,"reason":null},{"status":"idle","mode":null,"reason":null},"#,
@@ -135,11 +135,11 @@ fn a_line_in_full() {
         r#""granted":false,"rejected":false,"agent":null}]},"#,
         r#""counts":{"agents":0,"marked":0}}"#,
         "\n",
-        r#"{"end":"end","answer":0,"records":1,"drains":["#,
-        r#"{"lock":0,"answer":0,"count":0},{"lock":1,"answer":0,"count":0},"#,
-        r#"{"lock":2,"answer":0,"count":0},{"lock":3,"answer":0,"count":0},"#,
-        r#"{"lock":4,"answer":0,"count":0},{"lock":5,"answer":0,"count":4},"#,
-        r#"{"lock":6,"answer":0,"count":0},{"lock":7,"answer":0,"count":0}]}"#,
+        r#"{"end":"end","answer":0,"records":1,"handling":null,"drains":["#,
+        r#"{"lock":0,"answer":0,"count":0,"handling":null},{"lock":1,"answer":0,"count":0,"handling":null},"#,
+        r#"{"lock":2,"answer":0,"count":0,"handling":null},{"lock":3,"answer":0,"count":0,"handling":null},"#,
+        r#"{"lock":4,"answer":0,"count":0,"handling":null},{"lock":5,"answer":0,"count":4,"handling":null},"#,
+        r#"{"lock":6,"answer":0,"count":0,"handling":null},{"lock":7,"answer":0,"count":0,"handling":null}]}"#,
         "\n"
     );
     assert_eq!(inspected(&bytes), expected);
@@ -152,7 +152,7 @@ const EXAMPLE_TAIL: [u8; 19] = [
 ];
 
 const EXAMPLE_TAIL_LINES: &str = r#"
-{"n":4,"kind":"release","lock":0,"machine":0,"task":0,"answer":0,"state":{
+{"n":4,"kind":"release","lock":0,"machine":0,"task":0,"answer":0,"handling":null,"state":{
  "decider":{"mode":3,"machine":0,"incarnation":0},
  "agents":[null,null,null,null],
  "clients":[IDLE,IDLE,IDLE,IDLE,IDLE,IDLE,IDLE,IDLE,
@@ -161,21 +161,21 @@ const EXAMPLE_TAIL_LINES: &str = r#"
  "granted":false,"rejected":false,
  "agent":{"mode":3,"holders":[],"queue":[],"incarnation":0}}]},
  "counts":{"agents":1,"marked":0}}
-{"n":5,"kind":"deliver","lock":0,"index":0,"answer":0,"state":{
+{"n":5,"kind":"deliver","lock":0,"index":0,"answer":0,"handling":null,"state":{
  "decider":{"mode":0,"machine":null,"incarnation":0},
  "agents":[null,null,null,null],
  "clients":[IDLE,IDLE,IDLE,IDLE,IDLE,IDLE,IDLE,IDLE,
  IDLE,IDLE,IDLE,IDLE,IDLE,IDLE,IDLE,IDLE],
  "wire":[]},
  "counts":{"agents":0,"marked":0}}
-{"n":6,"kind":"deliver","lock":0,"index":0,"answer":8,"state":{
+{"n":6,"kind":"deliver","lock":0,"index":0,"answer":8,"handling":null,"state":{
  "decider":{"mode":0,"machine":null,"incarnation":0},
  "agents":[null,null,null,null],
  "clients":[IDLE,IDLE,IDLE,IDLE,IDLE,IDLE,IDLE,IDLE,
  IDLE,IDLE,IDLE,IDLE,IDLE,IDLE,IDLE,IDLE],
  "wire":[]},
  "counts":{"agents":0,"marked":0}}
-{"end":"end","answer":0,"records":6,"drains":[{"lock":0,"answer":0,"count":0},REST]}
+{"end":"end","answer":0,"records":6,"handling":null,"drains":[{"lock":0,"answer":0,"count":0,"handling":null},REST]}
 "#;
 
 #[test]
@@ -185,18 +185,20 @@ fn example_listing() {
 }
 
 /// The drain shows the GRANT, lists 1/0, releases 0/0 and 1/0, sends the
-/// RELEASE to the decider, on to the agent, and ends with the FREE.
+/// RELEASE to the decider, on to the agent, which takes it, and ends with the
+/// FREE.
 #[test]
 fn d2_grant_and_granted_request() {
     let end = r#"
-{"end":"end","answer":0,"records":5,"drains":[{"lock":0,"answer":0,"count":7},REST]}
+{"end":"end","answer":0,"records":5,"handling":null,"drains":[
+ {"lock":0,"answer":0,"count":7,"handling":"taken"},REST]}
 "#;
     let bytes = [&TAKE[..], &SHARE].concat();
     assert_lines(&bytes, &[TAKE_LINES, SHARE_LINES, end]);
 }
 
 const EARLY_FREE_LINES: &str = r#"
-{"n":6,"kind":"release","lock":0,"machine":0,"task":0,"answer":0,"state":{
+{"n":6,"kind":"release","lock":0,"machine":0,"task":0,"answer":0,"handling":null,"state":{
  "decider":{"mode":3,"machine":0,"incarnation":1},
  "agents":[null,null,null,null],
  "clients":[IDLE,IDLE,IDLE,IDLE,{"status":"waiting","mode":3,
@@ -210,7 +212,7 @@ const EARLY_FREE_LINES: &str = r#"
  "granted":false,"rejected":false,
  "agent":{"mode":3,"holders":[],"queue":[],"incarnation":0}}]},
  "counts":{"agents":1,"marked":1}}
-{"n":7,"kind":"deliver","lock":0,"index":2,"answer":0,"state":{
+{"n":7,"kind":"deliver","lock":0,"index":2,"answer":0,"handling":null,"state":{
  "decider":{"mode":3,"machine":0,"incarnation":1},
  "agents":[null,null,null,null],
  "clients":[IDLE,IDLE,IDLE,IDLE,{"status":"waiting","mode":3,
@@ -224,7 +226,8 @@ const EARLY_FREE_LINES: &str = r#"
  "granted":false,"rejected":true,
  "agent":{"mode":3,"holders":[],"queue":[],"incarnation":0}}]},
  "counts":{"agents":1,"marked":1}}
-{"end":"end","answer":0,"records":7,"drains":[{"lock":0,"answer":0,"count":9},REST]}
+{"end":"end","answer":0,"records":7,"handling":null,"drains":[
+ {"lock":0,"answer":0,"count":9,"handling":"taken"},REST]}
 "#;
 
 /// The drain shows the GRANT, sends the ACQUIRE back, restores the agent, sends
@@ -241,7 +244,7 @@ fn d3_rejected_free() {
 }
 
 const TWO_HOLDERS_LINES: &str = r#"
-{"n":6,"kind":"deliver","lock":0,"index":0,"answer":0,"state":{
+{"n":6,"kind":"deliver","lock":0,"index":0,"answer":0,"handling":null,"state":{
  "decider":{"mode":3,"machine":0,"incarnation":1},
  "agents":[{"mode":3,"holders":[0],"queue":[],"incarnation":0},null,null,null],
  "clients":[{"status":"holding","mode":3,"reason":null},IDLE,IDLE,IDLE,
@@ -250,7 +253,7 @@ const TWO_HOLDERS_LINES: &str = r#"
  "wire":[{"kind":"ACQUIRE","to":0,"client":4,"mode":3,
  "granted":true,"rejected":false,"agent":null}]},
  "counts":{"agents":1,"marked":1}}
-{"n":7,"kind":"deliver","lock":0,"index":0,"answer":0,"state":{
+{"n":7,"kind":"deliver","lock":0,"index":0,"answer":0,"handling":"taken","state":{
  "decider":{"mode":3,"machine":0,"incarnation":1},
  "agents":[{"mode":3,"holders":[0,4],"queue":[],"incarnation":1},null,null,null],
  "clients":[{"status":"holding","mode":3,"reason":null},IDLE,IDLE,IDLE,
@@ -258,7 +261,7 @@ const TWO_HOLDERS_LINES: &str = r#"
  IDLE,IDLE,IDLE,IDLE,IDLE,IDLE,IDLE,IDLE],
  "wire":[]},
  "counts":{"agents":1,"marked":0}}
-{"n":8,"kind":"release","lock":0,"machine":1,"task":0,"answer":0,"state":{
+{"n":8,"kind":"release","lock":0,"machine":1,"task":0,"answer":0,"handling":null,"state":{
  "decider":{"mode":3,"machine":0,"incarnation":1},
  "agents":[{"mode":3,"holders":[0,4],"queue":[],"incarnation":1},null,null,null],
  "clients":[{"status":"holding","mode":3,"reason":null},IDLE,IDLE,IDLE,IDLE,IDLE,IDLE,IDLE,
@@ -266,7 +269,8 @@ const TWO_HOLDERS_LINES: &str = r#"
  "wire":[{"kind":"RELEASE","to":null,"client":4,"mode":null,
  "granted":false,"rejected":false,"agent":null}]},
  "counts":{"agents":1,"marked":0}}
-{"end":"end","answer":0,"records":8,"drains":[{"lock":0,"answer":0,"count":4},REST]}
+{"end":"end","answer":0,"records":8,"handling":"taken","drains":[
+ {"lock":0,"answer":0,"count":4,"handling":"taken"},REST]}
 "#;
 
 /// The drain takes two steps for the RELEASE, one for 0/0 and one for the FREE.
@@ -282,7 +286,7 @@ fn two_holders_and_a_release() {
 }
 
 const REJECTED_GRANT_LINES: &str = r#"
-{"n":10,"kind":"deliver","lock":0,"index":2,"answer":0,"state":{
+{"n":10,"kind":"deliver","lock":0,"index":2,"answer":0,"handling":null,"state":{
  "decider":{"mode":3,"machine":0,"incarnation":1},
  "agents":[null,null,null,null],
  "clients":[IDLE,IDLE,IDLE,IDLE,{"status":"waiting","mode":3,
@@ -297,7 +301,7 @@ const REJECTED_GRANT_LINES: &str = r#"
  "granted":false,"rejected":true,
  "agent":{"mode":3,"holders":[],"queue":[],"incarnation":0}}]},
  "counts":{"agents":1,"marked":1}}
-{"n":11,"kind":"deliver","lock":0,"index":2,"answer":0,"state":{
+{"n":11,"kind":"deliver","lock":0,"index":2,"answer":0,"handling":null,"state":{
  "decider":{"mode":3,"machine":0,"incarnation":1},
  "agents":[{"mode":3,"holders":[],"queue":[{"client":8,"mode":2}],"incarnation":0},
  null,null,null],
@@ -310,7 +314,8 @@ const REJECTED_GRANT_LINES: &str = r#"
  {"kind":"ACQUIRE","to":0,"client":4,"mode":3,
  "granted":true,"rejected":false,"agent":null}]},
  "counts":{"agents":1,"marked":1}}
-{"end":"end","answer":0,"records":11,"drains":[{"lock":0,"answer":0,"count":9},REST]}
+{"end":"end","answer":0,"records":11,"handling":"taken","drains":[
+ {"lock":0,"answer":0,"count":9,"handling":"taken"},REST]}
 "#;
 
 /// The drain shows the GRANT, lists 1/0, releases it, brings the RELEASE to the
@@ -331,7 +336,7 @@ fn rejected_grant() {
 }
 
 const QUEUE_LINES: &str = r#"
-{"n":7,"kind":"deliver","lock":0,"index":0,"answer":0,"state":{
+{"n":7,"kind":"deliver","lock":0,"index":0,"answer":0,"handling":"taken","state":{
  "decider":{"mode":2,"machine":0,"incarnation":0},
  "agents":[{"mode":2,"holders":[0],
  "queue":[{"client":1,"mode":3},{"client":8,"mode":2}],"incarnation":0},null,null,null],
@@ -342,7 +347,7 @@ const QUEUE_LINES: &str = r#"
  IDLE,IDLE,IDLE,IDLE],
  "wire":[]},
  "counts":{"agents":1,"marked":0}}
-{"n":8,"kind":"release","lock":0,"machine":0,"task":0,"answer":0,"state":{
+{"n":8,"kind":"release","lock":0,"machine":0,"task":0,"answer":0,"handling":null,"state":{
  "decider":{"mode":2,"machine":0,"incarnation":0},
  "agents":[null,null,null,null],
  "clients":[IDLE,{"status":"waiting","mode":3,
@@ -354,7 +359,8 @@ const QUEUE_LINES: &str = r#"
  "granted":false,"rejected":false,
  "agent":{"mode":2,"holders":[],"queue":[{"client":8,"mode":2}],"incarnation":0}}]},
  "counts":{"agents":1,"marked":0}}
-{"end":"end","answer":0,"records":8,"drains":[{"lock":0,"answer":0,"count":7},REST]}
+{"end":"end","answer":0,"records":8,"handling":"taken","drains":[
+ {"lock":0,"answer":0,"count":7,"handling":null},REST]}
 "#;
 
 /// 0/1 and 2/0 wait while 0/0 holds; the agent leaves with one of them.
@@ -376,7 +382,7 @@ fn queue_with_two_waiters() {
 }
 
 const AWAY_FROM_ZERO_LINES: &str = r#"
-{"n":9,"kind":"release","lock":0,"machine":3,"task":0,"answer":0,"state":{
+{"n":9,"kind":"release","lock":0,"machine":3,"task":0,"answer":0,"handling":null,"state":{
  "decider":{"mode":2,"machine":3,"incarnation":0},
  "agents":[null,null,null,null],
  "clients":[IDLE,IDLE,IDLE,IDLE,
@@ -400,7 +406,8 @@ const AWAY_FROM_ZERO_LINES: &str = r#"
  "agent":{"mode":2,"holders":[],
  "queue":[{"client":14,"mode":3},{"client":15,"mode":2}],"incarnation":0}}]},
  "counts":{"agents":1,"marked":0}}
-{"end":"end","answer":0,"records":9,"drains":[{"lock":0,"answer":0,"count":24},REST]}
+{"end":"end","answer":0,"records":9,"handling":null,"drains":[
+ {"lock":0,"answer":0,"count":24,"handling":"taken"},REST]}
 "#;
 
 /// 3/0 holds, its neighbours queue on machine 3, 1/0 and 2/0 ask; then the agent leaves for 3/1 with the other two.
@@ -439,16 +446,16 @@ fn lock_out_of_range_has_no_state() {
         6, 0, 3, 0, 9, 40,
     ];
     let lines = r#"
-{"n":1,"kind":"acquire","lock":8,"machine":4,"task":5,"mode":1,"answer":1,"state":null,"counts":null}
-{"n":2,"kind":"release","lock":255,"machine":0,"task":6,"answer":1,"state":null,"counts":null}
-{"n":3,"kind":"deliver","lock":9,"index":40,"answer":1,"state":null,"counts":null}
-{"end":"end","answer":0,"records":3,"drains":[{"lock":0,"answer":0,"count":0},REST]}
+{"n":1,"kind":"acquire","lock":8,"machine":4,"task":5,"mode":1,"answer":1,"handling":null,"state":null,"counts":null}
+{"n":2,"kind":"release","lock":255,"machine":0,"task":6,"answer":1,"handling":null,"state":null,"counts":null}
+{"n":3,"kind":"deliver","lock":9,"index":40,"answer":1,"handling":null,"state":null,"counts":null}
+{"end":"end","answer":0,"records":3,"handling":null,"drains":[{"lock":0,"answer":0,"count":0,"handling":null},REST]}
 "#;
     assert_lines(&bytes, &[lines]);
 }
 
 const REFUSED_LINES: &str = r#"
-{"n":2,"kind":"acquire","lock":7,"machine":0,"task":0,"mode":2,"answer":5,"state":{
+{"n":2,"kind":"acquire","lock":7,"machine":0,"task":0,"mode":2,"answer":5,"handling":null,"state":{
  "decider":{"mode":0,"machine":null,"incarnation":0},
  "agents":[null,null,null,null],
  "clients":[{"status":"waiting","mode":3,
@@ -457,7 +464,7 @@ const REFUSED_LINES: &str = r#"
  "wire":[{"kind":"ACQUIRE","to":null,"client":0,"mode":3,
  "granted":false,"rejected":false,"agent":null}]},
  "counts":{"agents":0,"marked":0}}
-{"n":3,"kind":"release","lock":7,"machine":4,"task":9,"answer":2,"state":{
+{"n":3,"kind":"release","lock":7,"machine":4,"task":9,"answer":2,"handling":null,"state":{
  "decider":{"mode":0,"machine":null,"incarnation":0},
  "agents":[null,null,null,null],
  "clients":[{"status":"waiting","mode":3,
@@ -466,11 +473,11 @@ const REFUSED_LINES: &str = r#"
  "wire":[{"kind":"ACQUIRE","to":null,"client":0,"mode":3,
  "granted":false,"rejected":false,"agent":null}]},
  "counts":{"agents":0,"marked":0}}
-{"end":"end","answer":0,"records":3,"drains":[
- {"lock":0,"answer":0,"count":0},{"lock":1,"answer":0,"count":0},
- {"lock":2,"answer":0,"count":0},{"lock":3,"answer":0,"count":0},
- {"lock":4,"answer":0,"count":0},{"lock":5,"answer":0,"count":0},
- {"lock":6,"answer":0,"count":0},{"lock":7,"answer":0,"count":4}]}
+{"end":"end","answer":0,"records":3,"handling":null,"drains":[
+ {"lock":0,"answer":0,"count":0,"handling":null},{"lock":1,"answer":0,"count":0,"handling":null},
+ {"lock":2,"answer":0,"count":0,"handling":null},{"lock":3,"answer":0,"count":0,"handling":null},
+ {"lock":4,"answer":0,"count":0,"handling":null},{"lock":5,"answer":0,"count":0,"handling":null},
+ {"lock":6,"answer":0,"count":0,"handling":null},{"lock":7,"answer":0,"count":4,"handling":null}]}
 "#;
 
 #[test]
@@ -490,14 +497,14 @@ fn bad_record_ends_the_lines() {
     let bad = [6, 0, 4, 0, 0, 0];
     let behind = [7, 0, 2, 0, 0, 0, 0];
     let end = r#"
-{"end":"bad record","answer":12,"records":4,"drains":[{"lock":0,"answer":0,"count":2},REST]}
+{"end":"bad record","answer":12,"records":4,"handling":null,"drains":[{"lock":0,"answer":0,"count":2,"handling":null},REST]}
 "#;
     let bytes = [&TAKE[..], &bad, &behind].concat();
     assert_lines(&bytes, &[TAKE_LINES, end]);
 }
 
 const TOO_LONG: &str = r#"
-{"end":"too long","answer":13,"records":0,"drains":[{"lock":0,"answer":0,"count":0},REST]}
+{"end":"too long","answer":13,"records":0,"handling":null,"drains":[{"lock":0,"answer":0,"count":0,"handling":null},REST]}
 "#;
 
 /// 8,192 acquires, of 8 bytes each.
@@ -519,7 +526,7 @@ fn longest_transcript_is_run() {
     bytes.extend([7, 0, 2, 0, 0, 0, 0]);
     assert_eq!(bytes.len(), 65_535);
     let end = r#"
-{"end":"end","answer":0,"records":8192,"drains":[{"lock":0,"answer":0,"count":4},REST]}
+{"end":"end","answer":0,"records":8192,"handling":null,"drains":[{"lock":0,"answer":0,"count":4,"handling":null},REST]}
 "#;
     assert_last_lines(&bytes, end);
     assert_eq!(inspected(&bytes).lines().count(), 8_193);
@@ -528,9 +535,132 @@ fn longest_transcript_is_run() {
 #[test]
 fn empty_transcript() {
     let end = r#"
-{"end":"end","answer":0,"records":0,"drains":[{"lock":0,"answer":0,"count":0},REST]}
+{"end":"end","answer":0,"records":0,"handling":null,"drains":[{"lock":0,"answer":0,"count":0,"handling":null},REST]}
 "#;
     assert_lines(&[], &[end]);
+}
+
+/// The fields `handling` of the records' lines, as they are written.
+fn handlings_of_records(bytes: &[u8]) -> Vec<String> {
+    let text = inspected(bytes);
+    let records = text.lines().filter(|line| line.starts_with(r#"{"n":"#));
+    let field = |line: &str| {
+        let (before, rest) = line.split_once(r#","handling":"#).expect("a handling");
+        let (handling, _) = rest.split_once(r#","state":"#).expect("a state");
+        let digits = before.trim_end_matches(|c: char| c.is_ascii_digit());
+        assert!(digits.ends_with(r#","answer":"#), "{line}");
+        String::from(handling)
+    };
+    records.map(field).collect()
+}
+
+const NO_AGENT: &str = r#""no agent""#;
+const NOT_A_HOLDER: &str = r#""not a holder""#;
+const TAKEN: &str = r#""taken""#;
+
+/// D6 and D7, after D2: the RELEASE of 1/0 comes to the agent before its ACQUIRE does, 1/0 may not ask yet, and both packets
+/// are taken; then 1/0 asks again.
+const BUSY: [u8; 59] = [
+    6, 0, 3, 0, 0, 0, //
+    7, 0, 2, 0, 0, 1, 0, //
+    6, 0, 3, 0, 0, 1, //
+    6, 0, 3, 0, 0, 1, //
+    8, 0, 1, 0, 0, 1, 0, 3, //
+    6, 0, 3, 0, 0, 0, //
+    6, 0, 3, 0, 0, 0, //
+    6, 0, 3, 0, 0, 0, //
+    8, 0, 1, 0, 0, 1, 0, 3,
+];
+
+/// After ten records the drain lists 1/0, brings the RELEASE to the decider and to the agent, releases 0/0 and ends with the
+/// FREE. After all fourteen it has 1/0 granted, in three steps, releases 0/0 and 1/0, brings the RELEASE to the agent in two,
+/// and ends with the FREE.
+#[test]
+fn handlings_of_a_release_that_comes_early() {
+    let bytes = [&TAKE[..], &SHARE, &BUSY].concat();
+    let mut expected = vec!["null"; 14];
+    (expected[8], expected[10], expected[12]) = (NOT_A_HOLDER, TAKEN, TAKEN);
+    assert_eq!(handlings_of_records(&bytes), expected);
+    let end = r#"
+{"end":"end","answer":0,"records":14,"handling":"taken","drains":[
+ {"lock":0,"answer":0,"count":8,"handling":"taken"},REST]}
+"#;
+    assert_last_lines(&bytes, end);
+    let end = r#"
+{"end":"end","answer":0,"records":10,"handling":"not a holder","drains":[
+ {"lock":0,"answer":0,"count":5,"handling":"taken"},REST]}
+"#;
+    assert_last_lines(&bytes[..67], end);
+}
+
+/// The ACQUIRE of 1/0 comes to machine 0 before the agent does.
+const EARLY: [u8; 34] = [
+    8, 0, 1, 0, 0, 0, 0, 2, //
+    6, 0, 3, 0, 0, 0, //
+    8, 0, 1, 0, 0, 1, 0, 2, //
+    6, 0, 3, 0, 0, 1, //
+    6, 0, 3, 0, 0, 1,
+];
+
+/// The drain brings 0/0 its GRANT, sends the ACQUIRE on, queues 1/0, releases 0/0, brings 1/0 the agent in two steps, releases
+/// it and ends with the FREE.
+#[test]
+fn handling_before_a_bad_record_is_given() {
+    let bad = [6, 0, 4, 0, 0, 0];
+    let bytes = [&EARLY[..], &bad].concat();
+    let expected = ["null", "null", "null", "null", NO_AGENT];
+    assert_eq!(handlings_of_records(&bytes), expected);
+    let end = r#"
+{"end":"bad record","answer":12,"records":6,"handling":"no agent","drains":[
+ {"lock":0,"answer":0,"count":8,"handling":"taken"},REST]}
+"#;
+    assert_last_lines(&bytes, end);
+}
+
+/// A refused record and one that has no handling come behind the one that has.
+#[test]
+fn handling_is_given_at_the_end() {
+    let calls = [
+        6, 0, 3, 0, 0, 5, //
+        6, 0, 3, 0, 0, 0,
+    ];
+    let bytes = [&EARLY[..], &calls].concat();
+    let expected = ["null", "null", "null", "null", NO_AGENT, "null", "null"];
+    assert_eq!(handlings_of_records(&bytes), expected);
+    let end = r#"
+{"end":"end","answer":0,"records":7,"handling":"no agent","drains":[
+ {"lock":0,"answer":0,"count":7,"handling":"taken"},REST]}
+"#;
+    assert_last_lines(&bytes, end);
+}
+
+/// With 10,917 refused deliveries behind them the records are 65,536 bytes.
+#[test]
+fn overlong_transcript_has_no_handling() {
+    let refused = [6, 0, 3, 0, 1, 0].repeat(10_917);
+    let bytes = [&EARLY[..], &refused].concat();
+    assert_eq!(bytes.len(), 65_536);
+    assert_lines(&bytes, &[TOO_LONG]);
+}
+
+/// 1/0's ACQUIRE is under way to machine 0 when 0/0 hands the lock back. The drain sends it back, delivers the FREE and makes
+/// a new agent; then come the GRANT, the release and the FREE.
+#[test]
+fn drain_may_end_with_no_agent() {
+    let bytes = [
+        8, 0, 1, 0, 0, 0, 0, 2, //
+        6, 0, 3, 0, 0, 0, //
+        6, 0, 3, 0, 0, 0, //
+        8, 0, 1, 0, 0, 1, 0, 2, //
+        6, 0, 3, 0, 0, 0, //
+        7, 0, 2, 0, 0, 0, 0,
+    ];
+    assert_eq!(handlings_of_records(&bytes), ["null"; 6]);
+    let end = r#"
+{"end":"end","answer":0,"records":6,"handling":null,"drains":[
+ {"lock":0,"answer":0,"count":6,"handling":"no agent"},REST]}
+"#;
+    assert_last_lines(&bytes, end);
 }
 
 /// What the program writes for a transcript on its standard input.

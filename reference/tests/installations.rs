@@ -15,7 +15,7 @@ use reference::random_states::{hand_made_cluster, random_state};
 use reference::random_transcripts::{random_transcript, transcript_bytes};
 use reference::report::{Report, Tally};
 use reference::transcript::{Record, Records};
-use reference::{Outcome, DRAIN_LIMIT};
+use reference::{Handling, Outcome, DRAIN_LIMIT};
 
 const X: Mode = Mode::Exclusive;
 const S: Mode = Mode::Shared;
@@ -208,7 +208,8 @@ fn seven_waiters_are_served_in_turn() {
     assert_eq!(agent(&cluster, 0).queue, waiters(&stays));
     let expected = [plain(grant(ClientId(4), S), Address::Decider)];
     assert_eq!(lock(&cluster).wire, expected);
-    assert_eq!(cluster.clone().drain(LOCK), Ok(24));
+    let expected = drained(24, Handling::Taken);
+    assert_eq!(cluster.clone().drain(LOCK), expected);
     let shown = shown_by_draining(&mut cluster);
     assert_eq!(shown, (vec![4, 8, 12, 2, 5, 13], 24));
     assert_eq!(cluster, Cluster::new());
@@ -482,7 +483,7 @@ fn met_by_run(seed: u64, profile: Profile, generator: Generator, cluster: Cluste
         }
         let _ = match call.kind {
             DELIVER => calls.deliver(&mut cluster, call.lock, call.index),
-            _ => call.perform(&mut cluster),
+            _ => call.perform(&mut cluster).map(|_| ()),
         };
     }
     [calls, drains]
@@ -497,7 +498,7 @@ fn met_by_transcript(seed: u64) -> Met {
     for record in Records::new(&bytes).map_while(Result::ok).filter(|_| runs) {
         let _ = match record {
             Record::Deliver(lock, index) => met.deliver(&mut cluster, lock, index),
-            _ => record.run(&mut cluster),
+            _ => record.run(&mut cluster).map(|_| ()),
         };
     }
     met

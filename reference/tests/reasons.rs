@@ -15,7 +15,7 @@ use reference::random_states::{hand_made_cluster, random_state};
 use reference::random_transcripts::random_transcript;
 use reference::reasons::{reason_numbers, Reason};
 use reference::report::{Report, Tally};
-use reference::{answer_number, Refusal};
+use reference::{answer_number, Drained, Refusal};
 
 /// The client of the hand-made states: machine 1, task 1.
 const ASKED: ClientId = ClientId(5);
@@ -705,7 +705,8 @@ fn assert_asks(run: RunSeed, seed: u64, profile: Profile, generator: Generator, 
             }
         }
         let outcome = call.perform(&mut cluster);
-        digest.bytes(&[call.kind, answer_number(&outcome)]);
+        let handling = outcome.unwrap_or_default().number();
+        digest.bytes(&[call.kind, answer_number(&outcome), handling]);
         let numbers = expected_numbers(&cluster, call.lock, call.machine, call.task);
         digest.bytes(&numbers);
         if step.is_multiple_of(16) {
@@ -720,8 +721,9 @@ fn assert_asks(run: RunSeed, seed: u64, profile: Profile, generator: Generator, 
 fn digest_drain(cluster: &Cluster, lock: LockId, digest: &mut Digest) -> Cluster {
     let mut drained = cluster.clone();
     let outcome = drained.drain(lock);
-    digest.bytes(&[4, answer_number(&outcome)]);
-    digest.bytes(&outcome.unwrap_or(0).to_le_bytes());
+    let Drained { count, handling } = outcome.unwrap_or_default();
+    digest.bytes(&[4, answer_number(&outcome), handling.number()]);
+    digest.bytes(&count.to_le_bytes());
     digest.cluster(&drained);
     drained
 }

@@ -329,7 +329,7 @@ fn check_calls(seed: u64, profile: Profile, mut generator: Generator, mut cluste
         let changed = (0..8).filter(|&lock| cluster.locks[lock] != given.locks[lock]);
         let changed: Vec<usize> = changed.collect();
         match outcome {
-            Ok(()) => assert!(changed.iter().all(|&lock| lock == call.lock.index())),
+            Ok(_) => assert!(changed.iter().all(|&lock| lock == call.lock.index())),
             Err(_) => assert!(changed.is_empty()),
         }
     }

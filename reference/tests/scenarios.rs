@@ -7,6 +7,7 @@ use reference::model::{
     Address, ClientStatus, Cluster, Decider, LockId, MachineId, Message, Mode, Owner, Packet,
     TaskId,
 };
+use reference::Handling;
 
 fn owned(mode: Mode, machine: u8, incarnation: u8) -> Decider {
     let machine = MachineId(machine);
@@ -192,7 +193,7 @@ fn d12_drain_serves_each_waiter_once() {
     let (b, c) = (client(2, 0).0, client(3, 0).0);
     assert_eq!(shown_by_draining(&mut cluster), (vec![b, c], 8));
     assert_eq!(cluster, Cluster::new());
-    assert_eq!(d12().drain(LOCK), Ok(8));
+    assert_eq!(d12().drain(LOCK), drained(8, Handling::None));
 }
 
 #[test]
@@ -212,8 +213,8 @@ fn d13_drains_to_the_fresh_cluster() {
         steps += 1;
     }
     assert_eq!(by_calls, Cluster::new());
-    let mut drained = d13();
-    assert_eq!(drained.drain(LOCK), Ok(steps));
-    assert_eq!(drained, Cluster::new());
-    assert_eq!(drained.drain(LOCK), Ok(0));
+    let mut by_drain = d13();
+    assert_eq!(by_drain.drain(LOCK), drained(steps, Handling::Taken));
+    assert_eq!(by_drain, Cluster::new());
+    assert_eq!(by_drain.drain(LOCK), drained(0, Handling::None));
 }

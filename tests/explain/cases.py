@@ -4,9 +4,10 @@
     case NAME                  begins a case
     options WORD ..            options for the command
     given STATE                the state of lock 0 before the first step, where it is not fresh; a refused delivery shows it, as record 1
-    STEP = ANSWER              a step as ./assemble takes it, and its answer
+    STEP = ANSWER              a step as ./assemble takes it, and its answer; behind it the handling, if it has one
     after STATE                the lock's state after it; without this line it is as before
-    end RECORDS = ANSWER DRAINS   the last line of inspect, with the drains whose count is not 0 as {"LOCK":COUNT}, or {"LOCK":[COUNT,ANSWER]}
+    end RECORDS = ANSWER DRAINS   the last line of inspect, with the last handling of the steps, and the drains whose count is not 0 as {"LOCK":COUNT},
+                                  {"LOCK":[COUNT,ANSWER]} or {"LOCK":[COUNT,ANSWER,HANDLING]}
     > TEXT                     a line that the command should write; a case without text is only run
 
 A line that begins with a blank goes on with the one before it. A STATE is written as in docs/inspect.md, with these shorter forms: whatever is as in a fresh
@@ -32,12 +33,17 @@ class Case:
 
     def lines(self):
         """The lines of inspect, with a plain last line where the case has none."""
-        objects = self.objects if "end" in self.objects[-1] else [*self.objects, end_of(f"{len(self.objects)} = 0 {{}}")]
+        objects = self.objects if "end" in self.objects[-1] else [*self.objects, end_of(f"{len(self.objects)} = 0 {{}}", self.told())]
         return [json.dumps(one, separators=(",", ":")) for one in objects]
+
+    def told(self):
+        """The last handling of the steps, or None."""
+        return ([None] + [one["handling"] for one in self.objects if one["handling"]])[-1]
 
     def add_step(self, text, state=None):
         words, answer = text.rsplit(" = ", 1)
-        step = numbered(len(self.objects) + 1, words, int(answer))
+        number, _, handling = answer.partition(" ")
+        step = numbered(len(self.objects) + 1, words, int(number), handling or None)
         lock = step["lock"]
         if lock < LOCKS:
             self.states[lock] = state or self.states.get(lock) or fresh()
@@ -49,12 +55,12 @@ class Case:
         self.objects[-1].update(shown(state))
 
 
-def numbered(number, words, answer):
-    """A record's line, as far as its answer."""
+def numbered(number, words, answer, handling=None):
+    """A record's line, as far as its handling."""
     kind, *rest = words.split()
     values = [part for word in rest for part in word.split("/")]
     fields = zip(KINDS[kind], (MODES.get(value) or int(value) for value in values), strict=True)
-    return {"n": number, "kind": kind, **dict(fields), "answer": answer}
+    return {"n": number, "kind": kind, **dict(fields), "answer": answer, "handling": handling}
 
 
 def agent_of(short):
@@ -85,13 +91,16 @@ def state_of(text):
     return state
 
 
-def end_of(text):
+def drain_of(lock, count=0, answer=0, handling=None):
+    return {"lock": lock, "answer": answer, "count": count, "handling": handling}
+
+
+def end_of(text, handling=None):
     """The last line of inspect."""
     records, answer, drains = text.replace("= ", "").split(" ", 2)
-    given = {int(lock): drain if isinstance(drain, list) else [drain, 0] for lock, drain in json.loads(drains).items()}
-    rows = [(lock, *given.get(lock, (0, 0))) for lock in range(LOCKS)]
-    return {"end": ENDS[int(answer)], "answer": int(answer), "records": int(records),
-            "drains": [{"lock": lock, "answer": answer, "count": count} for lock, count, answer in rows]}
+    given = {int(lock): drain if isinstance(drain, list) else [drain] for lock, drain in json.loads(drains).items()}
+    return {"end": ENDS[int(answer)], "answer": int(answer), "records": int(records), "handling": handling,
+            "drains": [drain_of(lock, *given.get(lock, [])) for lock in range(LOCKS)]}
 
 
 def put(case, word, text):
@@ -104,7 +113,7 @@ def put(case, word, text):
     elif word == "after":
         case.put_state(state_of(text))
     elif word == "end":
-        case.objects.append(end_of(text))
+        case.objects.append(end_of(text, case.told()))
     elif word == ">":
         case.expected.append(text)
     else:

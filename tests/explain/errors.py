@@ -36,6 +36,7 @@ def with_reason(name, number, client, wrong):
 
 END = end_of("0 = 0 {}")
 ASKED = after(1, "acquire 0 0/0 shared", '{"clients":{"0":["waiting",3]},"wire":[{"kind":"ACQUIRE","client":0,"mode":3}]}')
+RUN = next([json.loads(line) for line in case.lines()] for case in cases_of(pathlib.Path(__file__).parent / "runs.cases") if case.name == "examples/rejected")
 TURNED = {"kind": ASKED["kind"], **ASKED}
 FIRST = "line 1 is not one that inspect writes (docs/inspect.md)"
 MISSING = "the last line of inspect is missing (docs/inspect.md)"
@@ -58,6 +59,16 @@ NOT_LINES = [
     (lines(END) + b"\n", "line 2 stands behind the last line of inspect"),
     (lines(replaced(END, records=1)), FIRST),
     (lines(replaced(END, answer=12)), FIRST),
+    (lines(replaced(END, handling="taken")), FIRST),
+    (lines(end_of('0 = 0 {"3":[1,0,"lost"]}')), FIRST),
+    (lines(*RUN[:8], replaced(RUN[8], handling="lost"), RUN[9], replaced(RUN[10], handling="lost")), FIRST.replace("1", "9", 1)),
+    (lines(replaced(end_of("0 = 13 {}"), handling="taken")), FIRST),
+    (lines(replaced(ASKED, handling="taken"), end_of("1 = 0 {}", "taken")), FIRST),
+    (lines(replaced(refused(1), handling="no agent"), end_of("1 = 0 {}", "no agent")), FIRST),
+    (lines(end_of('0 = 0 {"3":[0,0,"taken"]}')), FIRST),
+    (lines(end_of('0 = 0 {"3":[0,14,"taken"]}')), FIRST),
+    (lines(*RUN[:-1], replaced(RUN[-1], handling=None)), FIRST.replace("1", "11", 1)),
+    (lines(*RUN[:-1], replaced(RUN[-1], handling="no agent")), FIRST.replace("1", "11", 1)),
     (lines(replaced(END, drains=END["drains"][1:])), FIRST),
     (lines(refused(2), end_of("1 = 0 {}")), FIRST),
     (lines(refused(1), replaced(END, records=2)), "line 2 is not one that inspect writes (docs/inspect.md)"),

@@ -12,6 +12,8 @@ use Rattle.model.specs.declared.Message.{Message}
 use Rattle.model.specs.declared.Message.the-variants.{Free, Acquire, Grant, Release}
 use Rattle.model.specs.declared.Status.{Status}
 use Rattle.model.specs.declared.Status.the-variants.{Idle, Waiting, Holding}
+use Rattle.model.specs.declared.Handling.{Handling}
+use Rattle.model.specs.declared.Handling.the-variants.{None, NoAgent, NotHolder, Taken}
 use Rattle.model.specs.declared.{Packet.Packet, Wire.Wire, ClientState.ClientState, LockState.LockState, Cluster.Cluster}
 use Rattle.model.specs.Lists.{pick}
 use Rattle.model.specs.States.{modeNumber, waiters, packets}
@@ -86,3 +88,10 @@ lockBytes s = deciderBytes (s .decider) ++ (each slotBytes (s .agents) ++ (each 
 
 unfoldable pub clusterBytes : Cluster → List ℕ
 clusterBytes x = each lockBytes (x .locks)
+
+-- a handling, as 'A step' writes it
+abbrev pub handlingNumber : Handling → ℕ
+handlingNumber None = 0
+handlingNumber NoAgent = 1
+handlingNumber NotHolder = 2
+handlingNumber Taken = 3

@@ -8,6 +8,7 @@ ghost use Rattle.model.specs.States.{modeNumber};
 ghost use Rattle.model.specs.Reasons.{reasonNumber, reasonValues};
 ghost use Rattle.digest.specs.Bytes.{digestOf, each, flagNumber, flagBytes, ownerBytes, deciderBytes, waiterBytes, queueBytes, agentBytes, slotBytes};
 ghost use Rattle.digest.specs.Bytes.{statusNumber, clientBytes, messageBytes, addressBytes, packetBytes, wireBytes, lockBytes, clusterBytes};
+ghost use Rattle.digest.specs.Bytes.{handlingNumber};
 use model::Address;
 use model::Agent;
 use model::AgentSlot;
@@ -15,6 +16,7 @@ use model::CLIENTS;
 use model::ClientState;
 use model::Cluster;
 use model::Decider;
+use model::Handling;
 use model::LOCKS;
 use model::LockState;
 use model::MACHINES;
@@ -306,4 +308,22 @@ pub fn reason(h: u32, a: ReasonAnswer) -> u32
         ReasonAnswer::Because(r) => because(byte(h, 0), r),
         ReasonAnswer::Refused(r) => byte(h, r.number()),
     }
+}
+
+// ---- and the handling that it tells
+fn handling_number(h: Handling) -> u8
+    ensures { λ r. ⌜ r ≡ handlingNumber h ⌝ }
+{
+    match h {
+        Handling::None => 0,
+        Handling::NoAgent => 1,
+        Handling::NotHolder => 2,
+        Handling::Taken => 3,
+    }
+}
+
+pub fn handling(h: u32, a: Handling) -> u32
+    ensures { λ r. ⌜ r ≡ digestOf h (handlingNumber a ∷ []) ⌝ }
+{
+    byte(h, handling_number(a))
 }

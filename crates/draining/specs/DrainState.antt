@@ -11,11 +11,11 @@ use lib.Dec.{ltb}
 use borrow.Author.Tests.{lt-leb, le-leb, lt-ltb, le-ltb}
 use Rattle.model.specs.Lists.{pick}
 use Rattle.draining.specs.Names.{LockId, Packet, ClientState, LockState, Cluster, Call, ReleaseCall, DeliverCall, Refusal, Malformed, LockRange}
-use Rattle.draining.specs.Names.{NotQuiescent, Answer, Accepted, Refused, Stepped}
+use Rattle.draining.specs.Names.{NotQuiescent, Answer, Accepted, Refused, Handling, None, Stepped}
 use Rattle.model.specs.States.{locks, tasks, clients, packets, lockIn, freshLock}
 use Rattle.model.specs.WellFormed.{lockFormed, wellFormed}
 use Rattle.model.specs.Refusals.{number, first}
-use Rattle.model.specs.Calls.{isHolding, releaseStep, deliverStep, settled, perform}
+use Rattle.model.specs.Calls.{isHolding, releaseStep, deliverStep, settled, perform, handlingsOf, latest, lastTold}
 use Rattle.model.specs.Drain.{allowance, Next, none, some, releaseFirst, nextOf, nextCall, Drainage, ending, drainage, drainRefused, drainEnded}
 use Rattle.model.specs.Drain.{drainUnless, drain}
 use Rattle.laws.specs.Tests.{bool-cases, pick-yes, pick-no}
@@ -31,104 +31,122 @@ use Rattle.laws.specs.Formed.{lock-read}
 use Rattle.draining.specs.declared.Draining.{Draining}
 
 abbrev pub endedWith : Answer → Draining → Draining
-endedWith a d = record { ended = true; answer = a; left = d .left; state = d .state }
+endedWith a d = record { ended = true; answer = a; left = d .left; told = d .told; state = d .state }
 
-abbrev ends : Answer → ℕ → LockState → Draining
-ends a left s = record { ended = true; answer = a; left = left; state = s }
+abbrev ends : Answer → ℕ → Handling → LockState → Draining
+ends a left h s = record { ended = true; answer = a; left = left; told = record { handling = h }; state = s }
 
--- with so many steps left
-unfoldable pub drainState : ℕ → LockId → LockState → Draining
-drainState zero l s = elim (nextCall l s) [ none ↦ ends Accepted zero s | some c ↦ ends (Refused NotQuiescent) zero s ]
-drainState (suc left) l s =
+-- with so many steps left, and the last handling told
+unfoldable pub drainState : ℕ → LockId → Handling → LockState → Draining
+drainState zero l h s = elim (nextCall l s) [ none ↦ ends Accepted zero h s | some c ↦ ends (Refused NotQuiescent) zero h s ]
+drainState (suc left) l h s =
     elim (nextCall l s) [
-      | none ↦ ends Accepted (suc left) s
-      | some c ↦ elim (stepOf c s .answer) [ Accepted ↦ drainState left l (stepOf c s .state) | Refused r ↦ ends (Refused r) (suc left) s ]
+      | none ↦ ends Accepted (suc left) h s
+      | some c ↦ elim (stepOf c s .answer) [
+        | Accepted ↦ drainState left l (latest h (stepOf c s .handling)) (stepOf c s .state)
+        | Refused r ↦ ends (Refused r) (suc left) h s
+      ]
     ]
 
 -- what is left to do of a drain that came so far
 abbrev pub drainOn : LockId → Draining → Draining
-drainOn l d = drainState (d .left) l (d .state)
+drainOn l d = drainState (d .left) l (d .told .handling) (d .state)
 
 -- ---- each way on, as the code takes it
-module _ (l : LockId) (s : LockState) where
-  state-quiescent : (left : ℕ) → nextCall l s ≡ none → ends Accepted left s ≡ drainState left l s
+module _ (l : LockId) (h : Handling) (s : LockState) where
+  state-quiescent : (left : ℕ) → nextCall l s ≡ none → ends Accepted left h s ≡ drainState left l h s
   unfolding drainState
   state-quiescent zero e = rw (e, drainState)
   state-quiescent (suc left) e = rw (e, drainState)
 
   module _ (c : Call) (e : nextCall l s ≡ some c) where
-    state-spent : ends (Refused NotQuiescent) 0 s ≡ drainState 0 l s
+    state-spent : ends (Refused NotQuiescent) 0 h s ≡ drainState 0 l h s
     unfolding drainState
     state-spent = rw (e, drainState)
 
-    state-goes : (left : ℕ) → 0 < left → stepOf c s .answer ≡ Accepted → drainState (left - 1) l (stepOf c s .state) ≡ drainState left l s
+    state-goes : (left : ℕ) → 0 < left → stepOf c s .answer ≡ Accepted
+        → drainState (left - 1) l (latest h (stepOf c s .handling)) (stepOf c s .state) ≡ drainState left l h s
     unfolding drainState
-    state-goes zero h a = absurd (omega arith)
-    state-goes (suc left) h a = rw sub-one (sym (rw (e, drainState) (rw a)))
+    state-goes zero b a = absurd (omega arith)
+    state-goes (suc left) b a = rw sub-one (sym (rw (e, drainState) (rw a)))
 
-    state-refuses : (left : ℕ) (r : Refusal) → 0 < left → stepOf c s .answer ≡ Refused r → ends (Refused r) left s ≡ drainState left l s
+    state-refuses : (left : ℕ) (r : Refusal) → 0 < left → stepOf c s .answer ≡ Refused r → ends (Refused r) left h s ≡ drainState left l h s
     unfolding drainState
-    state-refuses zero r h a = absurd (omega arith)
-    state-refuses (suc left) r h a = rw (e, drainState) (rw a)
+    state-refuses zero r b a = absurd (omega arith)
+    state-refuses (suc left) r b a = rw (e, drainState) (rw a)
 
 -- ---- the drain of a cluster is that of its lock's state
 -- the cluster with the lock in another state
 abbrev pub placed : Cluster → LockId → LockState → Cluster
 placed x l s = record { locks = set (x .locks) (l .0) s }
 
-record Agree (left : ℕ) (x : Cluster) (l : LockId) (d : Drainage) (w : Draining) : Type 0 where
+record Agree (left : ℕ) (h : Handling) (x : Cluster) (l : LockId) (d : Drainage) (w : Draining) : Type 0 where
   answer : d .answer ≡ w .answer
   count : length (d .calls) + w .left ≡ left
+  told : lastTold h (handlingsOf (d .calls) x) ≡ w .told .handling
   cluster : d .cluster ≡ placed x l (w .state)
 
 -- where neither makes a step
-agree-here : (left : ℕ) (x : Cluster) (l : LockId) (a : Answer) → Agree left x l (ending a x) (ends a left (lockIn x l))
-agree-here left x l a = record { answer = refl; count = omega arith; cluster = rw (set-getD (x .locks) (l .0) freshLock) }
+agree-here : (left : ℕ) (h : Handling) (x : Cluster) (l : LockId) (a : Answer) → Agree left h x l (ending a x) (ends a left h (lockIn x l))
+unfolding lastTold
+agree-here left h x l a = record { answer = refl; count = omega arith; told = refl; cluster = rw (set-getD (x .locks) (l .0) freshLock) }
 
 -- the next call is the lock's step, put in its place
 module _ (l : LockId) (x : Cluster) (c : Call) (g : Goes l x c) where
   call-answer : perform c x .answer ≡ stepOf c (lockIn x l) .answer
-  call-answer = rw (g .step, g .lock) (settled-answer (stepOf c (lockIn x l) .answer) x l (stepOf c (lockIn x l) .state))
+  call-answer = rw (g .step, g .lock) (settled-answer (stepOf c (lockIn x l) .answer) x l (stepOf c (lockIn x l)))
 
-  call-cluster : stepOf c (lockIn x l) .answer ≡ Accepted → perform c x .cluster ≡ placed x l (stepOf c (lockIn x l) .state)
-  unfolding settled
-  call-cluster e = rw (g .step, g .lock, e)
+  module _ (e : stepOf c (lockIn x l) .answer ≡ Accepted) where
+    call-cluster : perform c x .cluster ≡ placed x l (stepOf c (lockIn x l) .state)
+    unfolding settled
+    call-cluster = rw (g .step, g .lock, e)
 
-agree : (left : ℕ) (x : Cluster) (l : LockId) → wellFormed x ≡ true → l .0 < locks → Agree left x l (drainage left l x) (drainState left l (lockIn x l))
-unfolding drainage drainState
-agree zero x l w h = go (nextCall l (lockIn x l)) refl
+    call-told : perform c x .handling ≡ stepOf c (lockIn x l) .handling
+    unfolding settled
+    call-told = rw (g .step, g .lock, e)
+
+agree : (left : ℕ) (u : Handling) (x : Cluster) (l : LockId) → wellFormed x ≡ true → l .0 < locks
+    → Agree left u x l (drainage left l x) (drainState left l u (lockIn x l))
+unfolding drainage drainState lastTold
+agree zero u x l w h = go (nextCall l (lockIn x l)) refl
   where
-    go : (m : Next) → nextCall l (lockIn x l) ≡ m → Agree zero x l (drainage zero l x) (drainState zero l (lockIn x l))
-    go none e = rw (e, drainage, drainState) (agree-here zero x l Accepted)
-    go (some c) e = rw (e, drainage, drainState) (agree-here zero x l (Refused NotQuiescent))
-agree (suc left) x l w h = go (nextCall l (lockIn x l)) refl (λ y v. agree left y l v h)
+    go : (m : Next) → nextCall l (lockIn x l) ≡ m → Agree zero u x l (drainage zero l x) (drainState zero l u (lockIn x l))
+    go none e = rw (e, drainage, drainState) (agree-here zero u x l Accepted)
+    go (some c) e = rw (e, drainage, drainState) (agree-here zero u x l (Refused NotQuiescent))
+agree (suc left) u x l w h = go (nextCall l (lockIn x l)) refl (λ t y v. agree left t y l v h)
   where
     Now : Type 0
-    Now = Agree (suc left) x l (drainage (suc left) l x) (drainState (suc left) l (lockIn x l))
+    Now = Agree (suc left) u x l (drainage (suc left) l x) (drainState (suc left) l u (lockIn x l))
 
     Later : Type 0
-    Later = (y : Cluster) → wellFormed y ≡ true → Agree left y l (drainage left l y) (drainState left l (lockIn y l))
+    Later = (t : Handling) (y : Cluster) → wellFormed y ≡ true → Agree left t y l (drainage left l y) (drainState left l t (lockIn y l))
 
     by-step : (c : Call) → Goes l x c → nextCall l (lockIn x l) ≡ some c → (a : Answer) → stepOf c (lockIn x l) .answer ≡ a → Later → Now
     by-step c g e Accepted q ih =
         let s = stepOf c (lockIn x l) .state in
+        let t = latest u (stepOf c (lockIn x l) .handling) in
         let y = placed x l s in
         let p : perform c x .cluster ≡ y = call-cluster l x c g q in
         let here : lockIn y l ≡ s = getD-set-same (x .locks) (l .0) s freshLock (rw (all-locks x w) h) in
-        let i : Agree left y l (drainage left l y) (drainState left l s) = rw here at (ih y (rw p at (perform-formed c x w))) in
+        let i : Agree left t y l (drainage left l y) (drainState left l t s) = rw here at (ih t y (rw p at (perform-formed c x w))) in
         rw (e, drainage, drainState) (rw (call-answer l x c g, q, p)
-        (record { answer = i .answer; count = omega (arith, i .count); cluster = i .cluster ∙ rw (set-set (x .locks) (l .0) s _) }))
-    by-step c g e (Refused r) q ih = rw (e, drainage, drainState) (rw (call-answer l x c g, q) (agree-here (suc left) x l (Refused r)))
+        (record {
+          answer = i .answer;
+          count = omega (arith, i .count);
+          told = rw (call-told l x c g q, p) (i .told);
+          cluster = i .cluster ∙ rw (set-set (x .locks) (l .0) s _);
+        }))
+    by-step c g e (Refused r) q ih = rw (e, drainage, drainState) (rw (call-answer l x c g, q) (agree-here (suc left) u x l (Refused r)))
 
     go : (m : Next) → nextCall l (lockIn x l) ≡ m → Later → Now
-    go none e ih = rw (e, drainage, drainState) (agree-here (suc left) x l Accepted)
+    go none e ih = rw (e, drainage, drainState) (agree-here (suc left) u x l Accepted)
     go (some c) e ih = by-step c (goes l x c w h (next-is l (lockIn x l) c e)) e (stepOf c (lockIn x l) .answer) refl ih
 
 -- what the drain gives, by how that of the lock's state, read with any default, ended
 module _ (x : Cluster) (l : LockId) (d : LockState) (g : (wellFormed x ≡ true) × (l .0 < locks)) {v : Draining}
-    (q : v ≡ drainState allowance l (getD (x .locks) (l .0) d)) where
-  agreed : Agree allowance x l (drainage allowance l x) v
-  agreed = rw (q, lock-read x l d (g .0) (g .1)) (agree allowance x l (g .0) (g .1))
+    (q : v ≡ drainState allowance l None (getD (x .locks) (l .0) d)) where
+  agreed : Agree allowance None x l (drainage allowance l x) v
+  agreed = rw (q, lock-read x l d (g .0) (g .1)) (agree allowance None x l (g .0) (g .1))
 
   pub made : length (drainage allowance l x .calls) + v .left ≡ allowance
   made = agreed .count
@@ -137,11 +155,12 @@ module _ (x : Cluster) (l : LockId) (d : LockState) (g : (wellFormed x ≡ true)
   unfolding drain drainUnless first
   drain-by = rw (g .0, lt-leb locks (l .0) (g .1)) (ap (λ (r : Answer). drainEnded r x (drainage allowance l x)) (agreed .answer))
 
-  pub drain-ends : v .answer ≡ Accepted → record { answer = Accepted; count = allowance - v .left; cluster = placed x l (v .state) } ≡ drain x l
+  pub drain-ends : v .answer ≡ Accepted
+      → record { answer = Accepted; count = allowance - v .left; handling = v .told .handling; cluster = placed x l (v .state) } ≡ drain x l
   unfolding drainEnded
   drain-ends a =
       let n : length (drainage allowance l x .calls) ≡ allowance - v .left = omega (arith, made) in
-      sym (drain-by ∙ rw (a, n, agreed .cluster))
+      sym (drain-by ∙ rw (a, n, agreed .told, agreed .cluster))
 
   pub drain-stops : (r : Refusal) → v .answer ≡ Refused r → drainRefused r x ≡ drain x l
   unfolding drainEnded
@@ -315,7 +334,7 @@ module _ {d : Draining} (o : Open d) where
       (record { goes = λ z. absurd (true≢false z); stops = λ z. q; formed = o .formed; fewer = omega arith }, λ z. absurd (true≢false z))
 
   pub progress-quiescent : ((l : LockId) → nextCall l (d .state) ≡ none) → Stepping d (endedWith Accepted d)
-  progress-quiescent n = progress-ends Accepted (λ l. state-quiescent l (d .state) (d .left) (n l))
+  progress-quiescent n = progress-ends Accepted (λ l. state-quiescent l (d .told .handling) (d .state) (d .left) (n l))
 
 -- the answer to a step that is planned with the answer a, with so many left
 unfoldable pub within : ℕ → Answer → Answer
@@ -338,11 +357,18 @@ within-made {left = left} {a = a} q e = go left (sym q ∙ e)
 
 -- the step planned as p is made
 abbrev pub steppedBy : Plan → Draining → Draining
-steppedBy p d = record { ended = d .ended; answer = d .answer; left = d .left - 1; state = carriedOut p (d .state) }
+steppedBy p d =
+    record {
+      ended = d .ended;
+      answer = d .answer;
+      left = d .left - 1;
+      told = record { handling = latest (d .told .handling) (p .handling) };
+      state = carriedOut p (d .state);
+    }
 
 module _ {d : Draining} {p : Plan} (g : (Open d) × (Planned (d .state) p)) where
   progress-spent : d .left ≡ 0 → Stepping d (endedWith (Refused NotQuiescent) d)
-  progress-spent z = progress-ends (g .0) (Refused NotQuiescent) (λ l. rw z (state-spent l (d .state) (g .1 .call l) (g .1 .next l)))
+  progress-spent z = progress-ends (g .0) (Refused NotQuiescent) (λ l. rw z (state-spent l (d .told .handling) (d .state) (g .1 .call l) (g .1 .next l)))
 
   -- the step answers what the plan does
   answers : (a : Answer) → g .1 .gives .answer ≡ a → (l : LockId) → stepOf (g .1 .call l) (d .state) .answer ≡ a
@@ -352,15 +378,16 @@ module _ {d : Draining} {p : Plan} (g : (Open d) × (Planned (d .state) p)) wher
     progress-refused : (r : Refusal) → p .answer ≡ Refused r → Stepping d (endedWith (Refused r) d)
     progress-refused r q =
         let a = answers (Refused r) (ap (λ (t : Stepped). t .answer) (sym (plan-refuses (g .1 .plans) r q))) in
-        progress-ends (g .0) (Refused r) (λ l. state-refuses l (d .state) (g .1 .call l) (g .1 .next l) (d .left) r (omega (arith, h)) (a l))
+        progress-ends (g .0) (Refused r)
+        (λ l. state-refuses l (d .told .handling) (d .state) (g .1 .call l) (g .1 .next l) (d .left) r (omega (arith, h)) (a l))
 
     progress-on : p .answer ≡ Accepted → Stepping d (steppedBy p d)
     progress-on q =
         let t = plan-accepts (g .1 .plans) q in
         let a = answers Accepted (ap (λ (t : Stepped). t .answer) (sym t)) in
-        rw (ap (λ (t : Stepped). t .state) t) (
+        rw (ap (λ (t : Stepped). t .state) t, ap (λ (t : Stepped). t .handling) t) (
           record {
-            goes = λ z l. rw (g .1 .step l) at (state-goes l (d .state) (g .1 .call l) (g .1 .next l) (d .left) (omega (arith, h)) (a l));
+            goes = λ z l. rw (g .1 .step l) at (state-goes l (d .told .handling) (d .state) (g .1 .call l) (g .1 .next l) (d .left) (omega (arith, h)) (a l));
             stops = λ z. absurd (true≢false (sym z ∙ g .0 .goes));
             formed = g .1 .formed;
             fewer = omega arith;

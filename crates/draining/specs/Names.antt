@@ -2,4 +2,5 @@
 pub use Rattle.model.specs.declared.{LockId.LockId, Packet.Packet, ClientState.ClientState, LockState.LockState, Cluster.Cluster}
 pub use Rattle.model.specs.declared.{Call.Call, Call.the-variants.{Release as ReleaseCall, Deliver as DeliverCall}}
 pub use Rattle.model.specs.declared.{Refusal.Refusal, Refusal.the-variants.{Malformed, LockRange, NotQuiescent}}
-pub use Rattle.model.specs.declared.{Answer.Answer, Answer.the-variants.{Accepted, Refused}, Stepped.Stepped}
+pub use Rattle.model.specs.declared.{Answer.Answer, Answer.the-variants.{Accepted, Refused}, Handling.Handling, Handling.the-variants.{None}}
+pub use Rattle.model.specs.declared.{Stepped.Stepped}

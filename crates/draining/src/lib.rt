@@ -8,6 +8,7 @@ use model::ClientId;
 use model::ClientState;
 use model::Cluster;
 use model::Drained;
+use model::Handling;
 use model::LOCKS;
 use model::LockId;
 use model::LockState;
@@ -21,15 +22,22 @@ ghost use mathlib.Core.Bool.{true, false};
 ghost use Prim.Native.Nat.{_<_};
 ghost use Rattle.model.specs.States.{locks};
 ghost use Rattle.model.specs.WellFormed.{wellFormed};
+ghost use Rattle.model.specs.Calls.{latest};
 ghost use Rattle.model.specs.Drain.{drainRefused, drain};
 ghost use Rattle.draining.specs.Names.{LockId};
 ghost use Rattle.draining.specs.DrainState.{Open, Stepping, endedWith, within, drainOn, holderFrom};
 
-// How far the drain of one lock's state came: the steps that are left and, where it has ended, its answer.
+// The last handling that a step told.
+pub(crate) struct Told {
+    pub(crate) handling: Handling,
+}
+
+// How far the drain of one lock's state came: the steps that are left, what they told and, where it has ended, its answer.
 pub(crate) struct Draining {
     pub(crate) ended: bool,
     pub(crate) answer: Answer,
     pub(crate) left: u16,
+    pub(crate) told: Told,
     pub(crate) state: LockState,
 }
 
@@ -53,11 +61,22 @@ fn end_with(d: Draining, a: Answer) -> Draining
     ensures { λ r. ⌜ r ≡ endedWith a d ⌝ }
 {
     let s = d.state;
+    let t = d.told;
     Draining {
         ended: true,
         answer: a,
         left: d.left,
+        told: t,
         state: s,
+    }
+}
+
+fn told_next(t: Told, next: Handling) -> Told
+    ensures { λ r. ⌜ r ≡ record { handling = latest (t .handling) next } ⌝ }
+{
+    let h = t.handling;
+    Told {
+        handling: h.latest(next),
     }
 }
 
@@ -81,10 +100,12 @@ fn deliver_all(start: Draining) -> Draining
     while 0 < d.state.wire.len {
         let p = plan_deliver(d.state, 0);
         let planned = p.answer;
+        let next = p.handling;
         let a = step_answer(d.left, planned);
         match a {
             Answer::Accepted => {
                 d.state = carry_out(p, d.state);
+                d.told = told_next(d.told, next);
                 d.left -= 1;
             }
             Answer::Refused(_) => {
@@ -109,10 +130,12 @@ fn release_all(start: Draining) -> Draining
         }
         let p = plan_release(d.state, ClientId(c));
         let planned = p.answer;
+        let next = p.handling;
         let a = step_answer(d.left, planned);
         match a {
             Answer::Accepted => {
                 d.state = carry_out(p, d.state);
+                d.told = told_next(d.told, next);
                 d.left -= 1;
             }
             Answer::Refused(_) => {
@@ -159,6 +182,7 @@ fn drain_refused(r: Refusal, x: Cluster) -> Drained
     Drained {
         answer: Answer::Refused(r),
         count: 0,
+        handling: Handling::None,
         cluster: x,
     }
 }
@@ -170,14 +194,18 @@ fn drain_lock(x: Cluster, l: LockId) -> Drained
 {
     let i = l.0 as usize;
     let s = x.locks[i];
+    let none = Handling::None;
     let d = drain_state(Draining {
         ended: false,
         answer: Answer::Accepted,
         left: ALLOWANCE,
+        told: Told { handling: none },
         state: s,
     });
     let count = ALLOWANCE - d.left;
     let a = d.answer;
+    let told = d.told;
+    let handling = told.handling;
     match a {
         Answer::Accepted => {
             let t = d.state;
@@ -186,6 +214,7 @@ fn drain_lock(x: Cluster, l: LockId) -> Drained
             Drained {
                 answer: Answer::Accepted,
                 count,
+                handling,
                 cluster: y,
             }
         }

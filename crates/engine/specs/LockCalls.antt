@@ -97,7 +97,7 @@ abbrev pub writtenBy : Call → Cluster → Cluster
 writtenBy c x = record { locks = set (x .locks) (lockOf c .0) (callOn c (lockIn x (lockOf c)) .state) }
 
 pub perform-whole : (c : Call) (x : Cluster) → wellFormed x ≡ true → lockOf c .0 < locks
-    → perform c x ≡ record { answer = callOn c (lockIn x (lockOf c)) .answer; cluster = writtenBy c x }
+    → perform c x ≡ record { answer = callOn c (lockIn x (lockOf c)) .answer; handling = callOn c (lockIn x (lockOf c)) .handling; cluster = writtenBy c x }
 unfolding unless settled first callOn stepUnless
 perform-whole c x e h = rw (perform-by c x) (rw (e, lt-leb locks (lockOf c .0) h) (tested (first (testsOf c s))))
   where
@@ -105,10 +105,10 @@ perform-whole c x e h = rw (perform-by c x) (rw (e, lt-leb locks (lockOf c .0) h
     s = lockIn x (lockOf c)
 
     written : Stepped → Outcome
-    written r = record { answer = r .answer; cluster = record { locks = set (x .locks) (lockOf c .0) (r .state) } }
+    written r = record { answer = r .answer; handling = r .handling; cluster = record { locks = set (x .locks) (lockOf c .0) (r .state) } }
 
-    stepped : (a : Answer) → stepOf c s .answer ≡ a → settled a x (lockOf c) (stepOf c s .state) ≡ written (record { answer = a; state = stepOf c s .state })
-    stepped Accepted q = refl
+    stepped : (a : Answer) → stepOf c s .answer ≡ a → settled a x (lockOf c) (stepOf c s) ≡ written (stepOf c s)
+    stepped Accepted q = rw q
     stepped (Refused r) q = rw (step-refused c s r q, set-getD (x .locks) (lockOf c .0) freshLock)
 
     tested : (a : Answer) → unless a x (lockOf c) (stepOf c s) ≡ written (stepUnless a s (stepOf c s))
@@ -121,14 +121,15 @@ module _ (c : Call) (x : Cluster) (l : LockId) (d : LockState) (f : (wellFormed 
   abbrev read : LockState
   read = getD (x .locks) (l .0) d
 
-  whole : perform c x ≡ record { answer = callOn c read .answer; cluster = record { locks = set (x .locks) (l .0) (callOn c read .state) } }
+  whole : perform c x
+      ≡ record { answer = callOn c read .answer; handling = callOn c read .handling; cluster = record { locks = set (x .locks) (l .0) (callOn c read .state) } }
   whole = rw (lock-read x l d (f .0) (f .1 .0), f .1 .1) (perform-whole c x (f .0) (rw (f .1 .1) at (f .1 .0)))
 
   pub perform-accepts : p .answer ≡ Accepted → {t : LockState} → t ≡ carriedOut p read
-      → record { answer = p .answer; cluster = record { locks = set (x .locks) (l .0) t } } ≡ perform c x
+      → record { answer = p .answer; handling = p .handling; cluster = record { locks = set (x .locks) (l .0) t } } ≡ perform c x
   perform-accepts a e = rw (e, a, whole, ← plan-accepts g a)
 
-  pub perform-refuses : (n : Refusal) → p .answer ≡ Refused n → record { answer = p .answer; cluster = x } ≡ perform c x
+  pub perform-refuses : (n : Refusal) → p .answer ≡ Refused n → record { answer = p .answer; handling = p .handling; cluster = x } ≡ perform c x
   perform-refuses n a = rw (a, whole, ← plan-refuses g n a) (rw (lock-read x l d (f .0) (f .1 .0), set-getD (x .locks) (l .0) freshLock))
 
 pub perform-written : (c : Call) (x : Cluster) → wellFormed x ≡ true → lockOf c .0 < locks → perform c x .cluster ≡ writtenBy c x

@@ -3,6 +3,7 @@ use model::Answer;
 use model::CLIENTS;
 use model::ClientState;
 use model::Cluster;
+use model::Handling;
 use model::LockState;
 use model::MACHINES;
 use model::Outcome;
@@ -50,6 +51,7 @@ pub(crate) fn refuse_call(n: Refusal, x: Cluster) -> Outcome
 {
     Outcome {
         answer: Answer::Refused(n),
+        handling: Handling::None,
         cluster: x,
     }
 }

@@ -80,6 +80,7 @@ fn perform_on(l: LockId, c: Call, x: Cluster) -> Outcome
     let s = y.locks[i];
     let p = plan_call(c, s);
     let a = p.answer;
+    let handling = p.handling;
     match a {
         Answer::Accepted => {
             y.locks[i] = carry_out(p, s);
@@ -88,6 +89,7 @@ fn perform_on(l: LockId, c: Call, x: Cluster) -> Outcome
     }
     Outcome {
         answer: a,
+        handling,
         cluster: y,
     }
 }

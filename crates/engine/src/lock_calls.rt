@@ -217,16 +217,19 @@ pub fn call_on(c: Call, s: LockState) -> Stepped
 {
     let p = plan_call(c, s);
     let a = p.answer;
+    let handling = p.handling;
     match a {
         Answer::Accepted => {
             let t = carry_out(p, s);
             Stepped {
                 answer: Answer::Accepted,
+                handling,
                 state: t,
             }
         }
         Answer::Refused(n) => Stepped {
             answer: Answer::Refused(n),
+            handling,
             state: s,
         },
     }

@@ -48,11 +48,10 @@ fn put_records(out: &mut [u8; ROOM], bytes: &[u8]) -> usize {
         match r {
             Reading::Record { call, next } => {
                 let o = perform(call, x);
-                let a = o.answer;
                 let y = o.cluster;
                 x = y;
                 k = room(out, k);
-                k = put_record(out, k, n, call, a.number(), x);
+                k = put_record(out, k, n, call, o);
                 at = next;
             }
             Reading::Bad => {

@@ -10,10 +10,12 @@ use listing::put_text;
 use model::Answer;
 use model::Call;
 use model::Cluster;
+use model::Handling;
 use model::LOCKS;
 use model::LockId;
 use model::LockState;
 use model::MachineId;
+use model::Outcome;
 use model::Replayed;
 use model::TaskId;
 
@@ -51,6 +53,16 @@ fn put_call(out: &mut [u8], at: usize, c: Call) -> usize {
     }
 }
 
+// What a machine made of the request.
+fn put_handling(out: &mut [u8], at: usize, h: Handling) -> usize {
+    match h {
+        Handling::None => put_text(out, at, b",\"handling\":null"),
+        Handling::NoAgent => put_text(out, at, b",\"handling\":\"no agent\""),
+        Handling::NotHolder => put_text(out, at, b",\"handling\":\"not a holder\""),
+        Handling::Taken => put_text(out, at, b",\"handling\":\"taken\""),
+    }
+}
+
 fn put_counts(out: &mut [u8], at: usize, s: LockState) -> usize {
     let k = put_field(out, at, b"{\"agents\":", agents_in(s) as u16);
     let k = put_field(out, k, b",\"marked\":", marks_in(s) as u16);
@@ -70,22 +82,27 @@ fn put_lock(out: &mut [u8], at: usize, x: Cluster, l: LockId) -> usize {
     }
 }
 
-// The line of the record with number n, whose call gave the answer and the cluster.
-pub fn put_record(out: &mut [u8], at: usize, n: u16, c: Call, answer: u8, x: Cluster) -> usize {
+// The line of the record with number n, whose call gave the outcome.
+pub fn put_record(out: &mut [u8], at: usize, n: u16, c: Call, o: Outcome) -> usize {
+    let a = o.answer;
+    let h = o.handling;
     let k = put_field(out, at, b"{\"n\":", n);
     let k = put_call(out, k, c);
-    let k = put_field(out, k, b",\"answer\":", answer as u16);
+    let k = put_field(out, k, b",\"answer\":", a.number() as u16);
+    let k = put_handling(out, k, h);
     let k = put_text(out, k, b",\"state\":");
-    let k = put_lock(out, k, x, lock_of(c));
+    let k = put_lock(out, k, o.cluster, lock_of(c));
     put_text(out, k, b"}\n")
 }
 
 fn put_drain(out: &mut [u8], at: usize, x: Cluster, l: u8) -> usize {
     let d = drain(x, LockId(l));
     let a = d.answer;
+    let h = d.handling;
     let k = put_field(out, at, b"{\"lock\":", l as u16);
     let k = put_field(out, k, b",\"answer\":", a.number() as u16);
     let k = put_field(out, k, b",\"count\":", d.count);
+    let k = put_handling(out, k, h);
     put_text(out, k, b"}")
 }
 
@@ -109,11 +126,13 @@ fn put_ending(out: &mut [u8], at: usize, answer: u8) -> usize {
 
 pub fn put_end(out: &mut [u8], at: usize, r: Replayed) -> usize {
     let a = r.answer;
+    let h = r.handling;
     let x = r.cluster;
     let answer = a.number();
     let k = put_ending(out, at, answer);
     let k = put_field(out, k, b",\"answer\":", answer as u16);
     let k = put_field(out, k, b",\"records\":", r.records);
+    let k = put_handling(out, k, h);
     let k = put_text(out, k, b",\"drains\":[");
     let k = put_drains(out, k, x);
     put_text(out, k, b"]}\n")

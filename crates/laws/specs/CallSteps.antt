@@ -1,22 +1,23 @@
 -- A call on a well-formed cluster, by cases: refused by a test, or every test passed and the call is its step on one lock.
-use mathlib.Core.Path.{_≡_, refl, sym, _∙_}
+use mathlib.Core.Path.{_≡_, refl, sym, ap, _∙_}
 use mathlib.Core.Bool.{Bool, true, false, _&&_, _||_, not, true≢false, false≢true}
 use mathlib.Core.List.{List, [], _∷_}
 use Prim.Native.Nat.{ℕ, _+_, _<_, _≤_}
+use native.Mathlib.Omega.{arith}
 use lib.ListN.{length}
 use lib.Seq.{getD-set-same, getD-set-other}
 use lib.Dec.{eqb, leb}
 use borrow.Author.Tests.{eqb-true, leb-true, leb-false, not-false}
 use Rattle.model.specs.Lists.{any, all, removed}
 use Rattle.laws.specs.Names.{LockId, MachineId, TaskId, ClientId, Mode, Packet, Status, Idle, Waiting, Holding, LockState, Cluster}
-use Rattle.laws.specs.Names.{Call, AcquireCall, ReleaseCall, DeliverCall, Refusal, Malformed, Answer, Accepted, Refused, Stepped, Outcome}
+use Rattle.laws.specs.Names.{Call, AcquireCall, ReleaseCall, DeliverCall, Refusal, Malformed, Answer, Accepted, Refused, Handling, None, Stepped, Outcome}
 use Rattle.model.specs.States.{clientOf, modeOf, modeNumber, statusOf, packets, lockIn, freshLock, locks, machines, tasks, wireCapacity}
 use Rattle.model.specs.WellFormed.{wellFormed}
-use Rattle.model.specs.Changes.{Verdict, cannot-place, does, finish}
+use Rattle.model.specs.Changes.{Verdict, cannot-place, does, refused, finish, toldBy, telling}
 use Rattle.model.specs.Refusals.{refusalNumber, Cause, _when_, first}
 use Rattle.model.specs.Calls.{isIdle, isHolding, names, acquireStep, releaseStep, takes, deliverStep, refusing}
 use Rattle.model.specs.Calls.{settled, unless, acquire, release, deliver, perform, lockOf}
-use Rattle.laws.specs.Tests.{and-left, and-right, pick-by}
+use Rattle.laws.specs.Tests.{and-left, and-right, bool-cases, pick-by}
 use Rattle.laws.specs.Formed.{all-locks}
 
 -- ---- a call's step on its lock's state
@@ -27,7 +28,7 @@ stepOf (DeliverCall l i) s = deliverStep s i
 
 -- the step's outcome, put back into the cluster
 abbrev pub outcomeOf : Call → Cluster → Outcome
-outcomeOf c x = settled (stepOf c (lockIn x (lockOf c)) .answer) x (lockOf c) (stepOf c (lockIn x (lockOf c)) .state)
+outcomeOf c x = settled (stepOf c (lockIn x (lockOf c)) .answer) x (lockOf c) (stepOf c (lockIn x (lockOf c)))
 
 -- what the passed tests say of the lock's state
 pub data Allowed : Call → LockState → Type 0 where
@@ -104,15 +105,15 @@ call-cases (ReleaseCall l k t) x w =
 call-cases (DeliverCall l i) x w = cases-by (DeliverCall l i) x _ w refl refl (λ n. (leb-false locks _ (n .0), may-deliver (leb-false _ i (n .1 .0))))
 
 -- ---- the frame: of other locks, and of the call's own
-settled-elsewhere : (a : Answer) (x : Cluster) (l : LockId) (s : LockState) (j : LockId) → (j .0 ≡ l .0 → ⊥) → lockIn (settled a x l s .cluster) j ≡ lockIn x j
+settled-elsewhere : (a : Answer) (x : Cluster) (l : LockId) (t : Stepped) (j : LockId) → (j .0 ≡ l .0 → ⊥) → lockIn (settled a x l t .cluster) j ≡ lockIn x j
 unfolding settled
-settled-elsewhere Accepted x l s j n = getD-set-other (x .locks) (l .0) (j .0) s freshLock n
-settled-elsewhere (Refused r) x l s j n = refl
+settled-elsewhere Accepted x l t j n = getD-set-other (x .locks) (l .0) (j .0) (t .state) freshLock n
+settled-elsewhere (Refused r) x l t j n = refl
 
-unless-elsewhere : (a : Answer) (x : Cluster) (l : LockId) (s : Stepped) (j : LockId) → (j .0 ≡ l .0 → ⊥) → lockIn (unless a x l s .cluster) j ≡ lockIn x j
+unless-elsewhere : (a : Answer) (x : Cluster) (l : LockId) (t : Stepped) (j : LockId) → (j .0 ≡ l .0 → ⊥) → lockIn (unless a x l t .cluster) j ≡ lockIn x j
 unfolding unless
-unless-elsewhere Accepted x l s j n = settled-elsewhere (s .answer) x l (s .state) j n
-unless-elsewhere (Refused r) x l s j n = refl
+unless-elsewhere Accepted x l t j n = settled-elsewhere (t .answer) x l t j n
+unless-elsewhere (Refused r) x l t j n = refl
 
 pub perform-elsewhere : (c : Call) (x : Cluster) (j : LockId) → (j .0 ≡ lockOf c .0 → ⊥) → lockIn (perform c x .cluster) j ≡ lockIn x j
 unfolding perform acquire release deliver
@@ -120,31 +121,82 @@ perform-elsewhere (AcquireCall l k t m) x j n = unless-elsewhere _ x l _ j n
 perform-elsewhere (ReleaseCall l k t) x j n = unless-elsewhere _ x l _ j n
 perform-elsewhere (DeliverCall l i) x j n = unless-elsewhere _ x l _ j n
 
--- a refused step leaves the state as it was
+-- a refused step leaves the state as it was, and tells no handling
 finish-refused : (k : MachineId) (c : ClientId) (w : Verdict) (rest : List Packet) (s : LockState) (r : Refusal) → finish k c w rest s .answer ≡ Refused r
-    → finish k c w rest s .state ≡ s
+    → finish k c w rest s ≡ refused r s
 unfolding finish
-finish-refused k c cannot-place rest s r e = refl
-finish-refused k c (does v qs) rest s r e =
-    pick-by (λ (t : Stepped). t .answer ≡ Refused r → t .state ≡ s) (leb (length rest + length qs) wireCapacity) (λ q z. cc) (λ q z. refl) e
+finish-refused k c w rest s r e = go w e
+  where
+    by-answer : {a : Answer} → a ≡ Refused r → record { answer = a; handling = None; state = s } ≡ refused r s
+    by-answer z = ap (λ (a : Answer). record { answer = a; handling = None; state = s }) z
 
-pub step-refused : (c : Call) (s : LockState) (r : Refusal) → stepOf c s .answer ≡ Refused r → stepOf c s .state ≡ s
+    go : (w : Verdict) → finish k c w rest s .answer ≡ Refused r → finish k c w rest s ≡ refused r s
+    go cannot-place e = by-answer e
+    go (does v qs) e =
+        pick-by (λ (t : Stepped). t .answer ≡ Refused r → t ≡ refused r s) (leb (length rest + length qs) wireCapacity) (λ q z. cc) (λ q z. by-answer z) e
+
+-- a rule by itself tells none
+pub finish-tells : (k : MachineId) (c : ClientId) (w : Verdict) (rest : List Packet) (s : LockState) → finish k c w rest s .handling ≡ None
+unfolding finish
+finish-tells k c cannot-place rest s = refl
+finish-tells k c (does v qs) rest s = pick-by (λ (t : Stepped). t .handling ≡ None) (leb (length rest + length qs) wireCapacity) (λ q. refl) (λ q. refl)
+
+pub told-none : (a : Answer) {h : Handling} → h ≡ None → toldBy a h ≡ None
+told-none Accepted e = e
+told-none (Refused r) e = refl
+
+pub telling-none : (k : MachineId) (c : ClientId) (w : Verdict) (rest : List Packet) (s : LockState) → telling None (finish k c w rest s) ≡ finish k c w rest s
+telling-none k c w rest s =
+    let t = finish k c w rest s in
+    ap (λ (h : Handling). record { answer = t .answer; handling = h; state = t .state }) (told-none (t .answer) refl ∙ sym (finish-tells k c w rest s))
+
+pub step-refused : (c : Call) (s : LockState) (r : Refusal) → stepOf c s .answer ≡ Refused r → stepOf c s ≡ refused r s
 unfolding acquireStep releaseStep deliverStep takes
 step-refused (AcquireCall l k t m) s r e = finish-refused _ _ _ (packets (s .wire)) s r e
 step-refused (ReleaseCall l k t) s r e = finish-refused _ _ _ (packets (s .wire)) s r e
-step-refused (DeliverCall l i) s r e = finish-refused _ _ _ (removed (packets (s .wire)) i) s r e
+step-refused (DeliverCall l i) s r e = ap (telling _) (finish-refused _ _ _ (removed (packets (s .wire)) i) s r e)
 
-settled-here : (a : Answer) (x : Cluster) (l : LockId) (s : LockState) → l .0 < length (x .locks) → ((r : Refusal) → a ≡ Refused r → s ≡ lockIn x l)
-    → lockIn (settled a x l s .cluster) l ≡ s
+settled-here : (a : Answer) (x : Cluster) (l : LockId) (t : Stepped) → l .0 < length (x .locks) → ((r : Refusal) → a ≡ Refused r → t ≡ refused r (lockIn x l))
+    → lockIn (settled a x l t .cluster) l ≡ t .state
 unfolding settled
-settled-here Accepted x l s h f = getD-set-same (x .locks) (l .0) s freshLock h
-settled-here (Refused r) x l s h f = sym (f r refl)
+settled-here Accepted x l t h f = getD-set-same (x .locks) (l .0) (t .state) freshLock h
+settled-here (Refused r) x l t h f = sym (ap (λ (u : Stepped). u .state) (f r refl))
 
-pub settled-answer : (a : Answer) (x : Cluster) (l : LockId) (s : LockState) → settled a x l s .answer ≡ a
+pub settled-answer : (a : Answer) (x : Cluster) (l : LockId) (t : Stepped) → settled a x l t .answer ≡ a
 unfolding settled
-settled-answer Accepted x l s = refl
-settled-answer (Refused r) x l s = refl
+settled-answer Accepted x l t = refl
+settled-answer (Refused r) x l t = refl
 
 pub perform-here : (c : Call) (x : Cluster) → wellFormed x ≡ true → lockOf c .0 < locks → perform c x ≡ outcomeOf c x
     → lockIn (perform c x .cluster) (lockOf c) ≡ stepOf c (lockIn x (lockOf c)) .state
 perform-here c x w h e = rw e (settled-here _ x (lockOf c) _ (rw (all-locks x w) h) (step-refused c (lockIn x (lockOf c))))
+
+-- ---- An accepted call passed every test, and its step is accepted.
+pub not-accepted : {r : Refusal} → Refused r ≡ Accepted → ⊥
+not-accepted e = let z : _≡_ {A = ℕ} 0 1 = cc in absurd (omega arith)
+
+pub record Passes (c : Call) (x : Cluster) : Type 0 where
+  pub formed : wellFormed x ≡ true
+  pub inside : lockOf c .0 < locks
+  pub allowed : Allowed c (lockIn x (lockOf c))
+  pub call : perform c x ≡ outcomeOf c x
+  pub step : stepOf c (lockIn x (lockOf c)) .answer ≡ Accepted
+
+malformed : (c : Call) (x : Cluster) → wellFormed x ≡ false → perform c x .answer ≡ Refused Malformed
+unfolding perform acquire release deliver unless first
+malformed (AcquireCall l k t m) x e = rw e
+malformed (ReleaseCall l k t) x e = rw e
+malformed (DeliverCall l i) x e = rw e
+
+pub passes : (c : Call) (x : Cluster) → perform c x .answer ≡ Accepted → Passes c x
+passes c x e = go (call-cases c x w)
+  where
+    w : wellFormed x ≡ true
+    w = bool-cases (wellFormed x) (λ f. f) (λ f. absurd (not-accepted (sym (malformed c x f) ∙ e)))
+
+    go : CallCases c x → Passes c x
+    go (denied r m n q) = absurd (not-accepted (sym (ap (λ (o : Outcome). o .answer) q) ∙ e))
+    go (passed h a q) =
+        let s = stepOf c (lockIn x (lockOf c)) in
+        let f : s .answer ≡ Accepted = sym (settled-answer (s .answer) x (lockOf c) s) ∙ sym (ap (λ (o : Outcome). o .answer) q) ∙ e in
+        record { formed = w; inside = h; allowed = a; call = q; step = f }

@@ -7,7 +7,7 @@ use native.Mathlib.Omega.{arith}
 use lib.ListN.{length, length-set}
 use lib.Dec.{eqb}
 use borrow.Author.Tests.{eq-eqb}
-use Rattle.laws.specs.Names.{LockId, LockState, Cluster, Call, Answer, Accepted, Refused}
+use Rattle.laws.specs.Names.{LockId, LockState, Cluster, Call, Answer, Accepted, Refused, Stepped}
 use Rattle.model.specs.States.{freshLock, fresh, lockIn, locks}
 use Rattle.model.specs.WellFormed.{lockFormed, wellFormed}
 use Rattle.model.specs.Calls.{settled, perform, lockOf}
@@ -33,13 +33,13 @@ step-formed _ s (may-acquire {m = m} k t n i a) f = acquire-formed s _ _ (omega 
 step-formed _ s (may-release k t n e) f = release-formed s _ (omega arith) f
 step-formed _ s (may-deliver {i = i} h) f = deliver-formed s i h f
 
-settled-formed : (a : Answer) (x : Cluster) (l : LockId) (s : LockState) → wellFormed x ≡ true → lockFormed s ≡ true
-    → wellFormed (settled a x l s .cluster) ≡ true
+settled-formed : (a : Answer) (x : Cluster) (l : LockId) (t : Stepped) → wellFormed x ≡ true → lockFormed (t .state) ≡ true
+    → wellFormed (settled a x l t .cluster) ≡ true
 unfolding settled wellFormed
-settled-formed Accepted x l s w f =
-    rw (eq-eqb _ locks (length-set (x .locks) (l .0) s ∙ all-locks x w))
-    (all-set lockFormed (x .locks) (l .0) s (and-right (eqb (length (x .locks)) locks) _ w) f)
-settled-formed (Refused r) x l s w f = w
+settled-formed Accepted x l t w f =
+    rw (eq-eqb _ locks (length-set (x .locks) (l .0) (t .state) ∙ all-locks x w))
+    (all-set lockFormed (x .locks) (l .0) (t .state) (and-right (eqb (length (x .locks)) locks) _ w) f)
+settled-formed (Refused r) x l t w f = w
 
 pub perform-formed : (c : Call) (x : Cluster) → wellFormed x ≡ true → wellFormed (perform c x .cluster) ≡ true
 perform-formed c x w = go (call-cases c x w)

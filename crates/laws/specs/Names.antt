@@ -11,4 +11,5 @@ pub use Rattle.model.specs.declared.{Refusal.Refusal}
 pub use Rattle.model.specs.declared.{Refusal.the-variants.{Malformed}}
 pub use Rattle.model.specs.declared.{Answer.Answer}
 pub use Rattle.model.specs.declared.{Answer.the-variants.{Accepted, Refused}}
+pub use Rattle.model.specs.declared.{Handling.Handling, Handling.the-variants.{None}}
 pub use Rattle.model.specs.declared.{Stepped.Stepped, Outcome.Outcome}

@@ -7,12 +7,12 @@ use native.Mathlib.Omega.{arith}
 use lib.ListN.{length}
 use lib.Dec.{eqb, leb, ltb}
 use borrow.Author.Tests.{eqb-true, leb-true, leb-false, le-leb}
-use Rattle.laws.specs.Names.{Cluster, Call, Accepted, Refused}
+use Rattle.laws.specs.Names.{Cluster, Call, Accepted, Refused, Handling}
 use Rattle.model.specs.declared.Refusal.the-variants.{BadRecord}
 use Rattle.model.specs.declared.Replayed.{Replayed}
 use Rattle.model.specs.declared.Reading.{Reading}
 use Rattle.model.specs.declared.Reading.the-variants.{Record, Bad, End}
-use Rattle.model.specs.Calls.{perform}
+use Rattle.model.specs.Calls.{perform, latest}
 use Rattle.model.specs.Transcripts.{short, acquireAt, releaseAt, deliverAt, wholeRecord, readRecord, replayed, replayFrom, callsFrom}
 use Rattle.model.specs.Listing.{kindOf, rowOf, lineOf, refusedLine, linesFrom}
 use Rattle.laws.specs.Tests.{and-right, pick-by}
@@ -59,22 +59,22 @@ unfolding readRecord
 end-at bytes i h = rw (le-leb (length bytes) i h)
 
 -- ---- the run, the lines and the calls from position i on, with one record more to read than so many
-pub record Reads (left : ℕ) (bytes : List ℕ) (i n : ℕ) (x : Cluster) (r : Replayed) (bs : List ℕ) (cs : List Call) : Type 0 where
-  pub run : replayFrom (suc left) bytes i n x ≡ r
+pub record Reads (left : ℕ) (bytes : List ℕ) (i n : ℕ) (h : Handling) (x : Cluster) (r : Replayed) (bs : List ℕ) (cs : List Call) : Type 0 where
+  pub run : replayFrom (suc left) bytes i n h x ≡ r
   pub lines : linesFrom (suc left) bytes i n x ≡ bs
   pub calls : callsFrom (suc left) bytes i ≡ cs
 
-module _ (left : ℕ) (bytes : List ℕ) (i n : ℕ) (x : Cluster) where
+module _ (left : ℕ) (bytes : List ℕ) (i n : ℕ) (h : Handling) (x : Cluster) where
   pub at-record : (c : Call) (j : ℕ) → readRecord bytes i ≡ Record c j
-      → Reads left bytes i n x (replayFrom left bytes j (n + 1) (perform c x .cluster))
+      → Reads left bytes i n h x (replayFrom left bytes j (n + 1) (latest h (perform c x .handling)) (perform c x .cluster))
       (lineOf (n + 1) (rowOf c x) ++ linesFrom left bytes j (n + 1) (perform c x .cluster)) (c ∷ callsFrom left bytes j)
   unfolding replayFrom linesFrom callsFrom
   at-record c j e = record { run = rw (e, replayFrom); lines = rw (e, linesFrom); calls = rw (e, callsFrom) }
 
-  pub at-bad : readRecord bytes i ≡ Bad → Reads left bytes i n x (replayed (Refused BadRecord) (n + 1) x) (refusedLine (n + 1) BadRecord) []
+  pub at-bad : readRecord bytes i ≡ Bad → Reads left bytes i n h x (replayed (Refused BadRecord) (n + 1) h x) (refusedLine (n + 1) BadRecord) []
   unfolding replayFrom linesFrom callsFrom
   at-bad e = record { run = rw (e, replayFrom); lines = rw (e, linesFrom); calls = rw (e, callsFrom) }
 
-  pub at-end : readRecord bytes i ≡ End → Reads left bytes i n x (replayed Accepted n x) [] []
+  pub at-end : readRecord bytes i ≡ End → Reads left bytes i n h x (replayed Accepted n h x) [] []
   unfolding replayFrom linesFrom callsFrom
   at-end e = let z : n + 0 ≡ n = omega arith in record { run = rw (e, replayFrom, z); lines = rw (e, linesFrom); calls = rw (e, callsFrom) }

@@ -8,7 +8,7 @@ pub use borrow.Author.Tests.{eq-eqb, ne-eqb}
 pub use Rattle.model.specs.States.{queueCapacity, blankWaiter}
 unfoldable pub use Rattle.model.specs.States.{waiters}
 unfoldable pub use Rattle.model.specs.AtMachine.{joined, installs, grantArrives, rejectedGrantArrives, marked, unmarked, acquireArrives, releaseArrives}
-unfoldable pub use Rattle.model.specs.AtMachine.{freeArrives, arrives, atMachine}
+unfoldable pub use Rattle.model.specs.AtMachine.{freeArrives, arrives, atMachine, handles}
 pub use Rattle.laws.specs.Shapes.{waiters-of, queue-whole}
 pub use Rattle.laws.specs.Parting.{none-leaves}
 pub use Rattle.parts.specs.Scans.{used-more, used-end}

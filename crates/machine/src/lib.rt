@@ -4,6 +4,7 @@ use model::Agent;
 use model::AgentSlot;
 use model::CLIENTS;
 use model::ClientId;
+use model::Handling;
 use model::Message;
 use model::Mode;
 use model::Packet;
@@ -43,9 +44,9 @@ ghost use Rattle.model.specs.States.{queueCapacity, waiters, someAgent};
 ghost use Rattle.model.specs.Changes.{withSlot, does};
 ghost use Rattle.model.specs.Asking.{withRoom};
 ghost use Rattle.model.specs.AtMachine.{sentBack, installs, requeued, grantArrives, rejectedGrantArrives, marked, unmarked, acquireArrives, releaseArrives};
-ghost use Rattle.model.specs.AtMachine.{freeArrives, arrives, atMachine};
+ghost use Rattle.model.specs.AtMachine.{freeArrives, arrives, atMachine, handles};
 ghost use Rattle.laws.specs.Shapes.{CanonicalQueue};
-ghost use Rattle.machine.specs.Names.{Exclusive, Shared};
+ghost use Rattle.machine.specs.Names.{Exclusive, Shared, Release};
 ghost use Rattle.rules.specs.Effects.{verdictOf};
 ghost use Rattle.machine.specs.Admits.{Room, leavesNext, admitsOne, admits, admission};
 
@@ -307,4 +308,41 @@ pub fn at_machine(v: Site, p: Packet) -> Effect
 {
     let m = p.message;
     arrive(m, v, p)
+}
+
+// What the machine with this slot makes of a RELEASE.
+fn handling_of_release(x: AgentSlot, c: ClientId) -> Handling
+    ensures { λ r. ⌜ r ≡ handles (Release c) x ⌝ }
+{
+    if x.present {
+        if listed(x, c) {
+            Handling::Taken
+        } else {
+            Handling::NotHolder
+        }
+    } else {
+        Handling::NoAgent
+    }
+}
+
+// And of any message: why a request comes back.
+pub fn handling(m: Message, x: AgentSlot) -> Handling
+    ensures { λ r. ⌜ r ≡ handles m x ⌝ }
+{
+    match m {
+        Message::Free => Handling::None,
+        Message::Acquire {
+            client: _,
+            mode: _,
+            granted: _,
+        } => {
+            if x.present {
+                Handling::Taken
+            } else {
+                Handling::NoAgent
+            }
+        }
+        Message::Grant { client: _, mode: _ } => Handling::None,
+        Message::Release { client } => handling_of_release(x, client),
+    }
 }

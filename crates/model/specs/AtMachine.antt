@@ -4,6 +4,7 @@ use mathlib.Core.List.{List, [], _∷_, map}
 use lib.ListN.{set}
 use Rattle.model.specs.Lists.{pick}
 use Rattle.model.specs.Names.{ClientId, Mode, Shared, Waiter, Agent, AgentSlot, ToDecider, Message, Free, Acquire, Grant, Release, Packet, Holding, Site}
+use Rattle.model.specs.Names.{Handling, None, NoAgent, NotHolder, Taken}
 use Rattle.model.specs.States.{queueOf, waiters, someAgent, plain, resent, isShared}
 use Rattle.model.specs.Changes.{Verdict, cannot-place, does, withSlot, withStatus}
 use Rattle.model.specs.Asking.{changed, joining, queuing, withRoom, mayJoin, leaves, lists}
@@ -106,3 +107,11 @@ arrives Free v p = freeArrives (v .slot .present) v (p .carried)
 
 unfoldable pub atMachine : Site → Packet → Verdict
 atMachine v p = arrives (p .message) v p
+
+-- Why a request comes back (request 4 of document 02): what a machine with this slot makes of it. An ACQUIRE is for any agent, a RELEASE for the one that lists
+-- its client. A GRANT and a FREE are no requests.
+unfoldable pub handles : Message → AgentSlot → Handling
+handles (Acquire c m g) x = pick (x .present) Taken NoAgent
+handles (Release c) x = pick (x .present) (pick (lists x c) Taken NotHolder) NoAgent
+handles (Grant c m) x = None
+handles Free x = None

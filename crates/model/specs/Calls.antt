@@ -8,13 +8,13 @@ use Rattle.model.specs.Lists.{any, removed}
 use Rattle.model.specs.Names.{LockId, MachineId, TaskId, ClientId, Mode, Address, ToDecider, ToMachine, Message, Free, Acquire, Grant, Release, Packet}
 use Rattle.model.specs.Names.{Status, Idle, Waiting, Holding, LockState, Cluster, Call, AcquireCall, ReleaseCall, DeliverCall, Malformed, LockRange}
 use Rattle.model.specs.Names.{MachineRange, TaskRange, ModeRange, NotIdle, StillNamed, NotHolding, IndexRange, Refusal, Answer, Accepted, Refused}
-use Rattle.model.specs.Names.{Stepped, Outcome, Site}
-use Rattle.model.specs.States.{locks, machines, tasks, clientOf, machineOf, modeOf, statusOf, packets, blankPacket, lockIn, fresh}
+use Rattle.model.specs.Names.{AgentSlot, Handling, None, NoAgent, NotHolder, Taken, Stepped, Outcome, Site}
+use Rattle.model.specs.States.{locks, machines, tasks, clientOf, machineOf, modeOf, statusOf, agentOn, packets, blankPacket, lockIn, fresh}
 use Rattle.model.specs.WellFormed.{wellFormed}
-use Rattle.model.specs.Changes.{siteOf, Verdict, finish}
+use Rattle.model.specs.Changes.{siteOf, Verdict, finish, telling}
 use Rattle.model.specs.Asking.{clientAcquires, clientReleases}
 use Rattle.model.specs.AtDecider.{atDecider}
-use Rattle.model.specs.AtMachine.{atMachine}
+use Rattle.model.specs.AtMachine.{atMachine, handles}
 use Rattle.model.specs.Refusals.{Cause, _when_, first}
 
 abbrev pub isIdle : Status → Bool
@@ -42,6 +42,11 @@ unfoldable pub delivers : Address → Site → Packet → Verdict
 delivers ToDecider v p = atDecider v p
 delivers (ToMachine k) v p = atMachine v p
 
+-- What it tells: a machine's handling. The decider tells none.
+unfoldable pub handledAt : Address → Message → AgentSlot → Handling
+handledAt ToDecider m x = None
+handledAt (ToMachine k) m x = handles m x
+
 -- The machine that a delivery is about: the address's. At the decider no rule looks at it, so any will do.
 abbrev pub machineAt : Address → MachineId
 machineAt ToDecider = record { 0 = 0 }
@@ -68,8 +73,8 @@ releaseStep s c = finish (machineOf c) c (clientReleases (siteOf s (machineOf c)
 -- the packet p is taken off the wire, which keeps the rest
 unfoldable pub takes : LockState → Packet → List Packet → Stepped
 takes s p rest =
-    finish (machineAt (p .to)) (clientNamed (p .message))
-    (delivers (p .to) (siteOf s (machineAt (p .to)) (clientNamed (p .message))) p) rest s
+    telling (handledAt (p .to) (p .message) (agentOn s (machineAt (p .to)))) (finish (machineAt (p .to)) (clientNamed (p .message))
+    (delivers (p .to) (siteOf s (machineAt (p .to)) (clientNamed (p .message))) p) rest s)
 
 unfoldable pub deliverStep : LockState → ℕ → Stepped
 deliverStep s i = takes s (packetAt s i) (removed (packets (s .wire)) i)
@@ -97,18 +102,18 @@ deliverTests s i = (IndexRange when leb (length (packets (s .wire))) i) ∷ []
 abbrev pub causes : Cluster → LockId → List Cause → List Cause
 causes x l tests = (Malformed when not (wellFormed x)) ∷ (LockRange when leb locks (l .0)) ∷ tests
 
--- A refused call leaves the cluster as it was.
+-- A refused call leaves the cluster as it was, and tells no handling.
 abbrev pub refusing : Refusal → Cluster → Outcome
-refusing r x = record { answer = Refused r; cluster = x }
+refusing r x = record { answer = Refused r; handling = None; cluster = x }
 
 -- the lock's state after the step is put in its place
-unfoldable pub settled : Answer → Cluster → LockId → LockState → Outcome
-settled Accepted x l s = record { answer = Accepted; cluster = record { locks = set (x .locks) (l .0) s } }
-settled (Refused r) x l s = refusing r x
+unfoldable pub settled : Answer → Cluster → LockId → Stepped → Outcome
+settled Accepted x l t = record { answer = Accepted; handling = t .handling; cluster = record { locks = set (x .locks) (l .0) (t .state) } }
+settled (Refused r) x l t = refusing r x
 
 unfoldable pub unless : Answer → Cluster → LockId → Stepped → Outcome
-unless Accepted x l s = settled (s .answer) x l (s .state)
-unless (Refused r) x l s = refusing r x
+unless Accepted x l t = settled (t .answer) x l t
+unless (Refused r) x l t = refusing r x
 
 unfoldable pub acquire : Cluster → LockId → MachineId → TaskId → ℕ → Outcome
 acquire x l k t m = unless (first (causes x l (acquireTests (lockIn x l) k t m))) x l (acquireStep (lockIn x l) (clientOf k t) (modeOf m))
@@ -143,3 +148,18 @@ answersOf (c ∷ cs) x = perform c x .answer ∷ answersOf cs (perform c x .clus
 -- and all of them from a fresh cluster
 abbrev pub after : List Call → Cluster
 after cs = run cs fresh
+
+-- The handlings that the calls of a list tell, in its order, and the last of these: the one told before them where they tell none.
+abbrev pub handlingsOf : List Call → Cluster → List Handling
+handlingsOf [] x = []
+handlingsOf (c ∷ cs) x = perform c x .handling ∷ handlingsOf cs (perform c x .cluster)
+
+abbrev pub latest : Handling → Handling → Handling
+latest h None = h
+latest h NoAgent = NoAgent
+latest h NotHolder = NotHolder
+latest h Taken = Taken
+
+unfoldable pub lastTold : Handling → List Handling → Handling
+lastTold h [] = h
+lastTold h (g ∷ gs) = lastTold (latest h g) gs

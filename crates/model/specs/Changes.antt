@@ -5,8 +5,8 @@ use Prim.Native.Nat.{_+_}
 use lib.ListN.{length, set}
 use lib.Dec.{leb}
 use Rattle.model.specs.Lists.{pick}
-use Rattle.model.specs.Names.{MachineId, ClientId, Decider, AgentSlot, Packet, Status, Site, LockState, Refusal, CannotPlace, WireFull, Accepted, Refused}
-use Rattle.model.specs.Names.{Stepped}
+use Rattle.model.specs.Names.{MachineId, ClientId, Decider, AgentSlot, Packet, Status, Site, LockState, Refusal, CannotPlace, WireFull}
+use Rattle.model.specs.Names.{Answer, Accepted, Refused, Handling, None, Stepped}
 use Rattle.model.specs.States.{wireCapacity, wireOf, agentOn, statusOf}
 
 -- The site: what a rule looks at and may write.
@@ -38,13 +38,21 @@ apply k c v sends rest s =
     }
 
 abbrev pub accepted : LockState → Stepped
-accepted s = record { answer = Accepted; state = s }
+accepted s = record { answer = Accepted; handling = None; state = s }
 
 abbrev pub refused : Refusal → LockState → Stepped
-refused n s = record { answer = Refused n; state = s }
+refused n s = record { answer = Refused n; handling = None; state = s }
 
 -- Refusal 9 is the rule's own, and 10 comes where the packets that stay and those sent are too many for the wire. Both leave the state.
 unfoldable pub finish : MachineId → ClientId → Verdict → List Packet → LockState → Stepped
 finish k c cannot-place rest s = refused CannotPlace s
 finish k c (does v sends) rest s =
     pick (leb (length rest + length sends) wireCapacity) (accepted (apply k c v sends rest s)) (refused WireFull s)
+
+-- A step that is accepted may tell a handling beside its answer; one that is refused tells none.
+abbrev pub toldBy : Answer → Handling → Handling
+toldBy Accepted h = h
+toldBy (Refused r) h = None
+
+abbrev pub telling : Handling → Stepped → Stepped
+telling h t = record { answer = t .answer; handling = toldBy (t .answer) h; state = t .state }

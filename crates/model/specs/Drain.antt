@@ -6,11 +6,11 @@ use lib.ListN.{length}
 use lib.Dec.{leb}
 use Rattle.model.specs.Lists.{pick}
 use Rattle.model.specs.Names.{LockId, Packet, ClientState, LockState, Cluster, Call, ReleaseCall, DeliverCall, Refusal, Malformed, LockRange}
-use Rattle.model.specs.Names.{NotQuiescent, Answer, Accepted, Refused, Drained}
+use Rattle.model.specs.Names.{NotQuiescent, Answer, Accepted, Refused, None, Drained}
 use Rattle.model.specs.States.{locks, tasks, packets, lockIn}
 use Rattle.model.specs.WellFormed.{wellFormed}
 use Rattle.model.specs.Refusals.{_when_, first}
-use Rattle.model.specs.Calls.{isHolding, perform}
+use Rattle.model.specs.Calls.{isHolding, perform, handlingsOf, lastTold}
 
 -- the steps that it may take
 abbrev pub allowance : ℕ
@@ -64,12 +64,14 @@ drainage (suc left) l x =
 abbrev pub drainCalls : LockId → Cluster → List Call
 drainCalls l x = drainage allowance l x .calls
 
--- A drain that comes to its end counts its steps. Any other leaves the cluster that it was given, and counts none.
+-- A drain that comes to its end counts its steps, and tells the last handling that one of them told. Any other leaves the cluster that it was given, counts
+-- none and tells none.
 abbrev pub drainRefused : Refusal → Cluster → Drained
-drainRefused r x = record { answer = Refused r; count = 0; cluster = x }
+drainRefused r x = record { answer = Refused r; count = 0; handling = None; cluster = x }
 
 unfoldable pub drainEnded : Answer → Cluster → Drainage → Drained
-drainEnded Accepted x d = record { answer = Accepted; count = length (d .calls); cluster = d .cluster }
+drainEnded Accepted x d =
+    record { answer = Accepted; count = length (d .calls); handling = lastTold None (handlingsOf (d .calls) x); cluster = d .cluster }
 drainEnded (Refused r) x d = drainRefused r x
 
 unfoldable pub drainUnless : Answer → LockId → Cluster → Drained

@@ -6,10 +6,10 @@ use lib.ListN.{length, getD}
 use lib.Dec.{eqb, leb, ltb}
 use Rattle.model.specs.Lists.{pick}
 use Rattle.model.specs.Names.{Cluster, Call, AcquireCall, ReleaseCall, DeliverCall, Malformed, BadRecord, TranscriptLength, Answer, Accepted, Refused}
-use Rattle.model.specs.Names.{Reading, Record, Bad, End, Replayed}
+use Rattle.model.specs.Names.{Handling, None, Reading, Record, Bad, End, Replayed}
 use Rattle.model.specs.WellFormed.{wellFormed}
 use Rattle.model.specs.Refusals.{Cause, _when_, first}
-use Rattle.model.specs.Calls.{perform}
+use Rattle.model.specs.Calls.{perform, latest}
 
 -- a number in two bytes, the low one first
 abbrev pub short : List ℕ → ℕ → ℕ
@@ -54,21 +54,21 @@ given (Record c j) = goes-on c j
 given Bad = ends (Refused BadRecord) 1
 given End = ends Accepted 0
 
-abbrev pub replayed : Answer → ℕ → Cluster → Replayed
-replayed a n x = record { answer = a; records = n; cluster = x }
+abbrev pub replayed : Answer → ℕ → Handling → Cluster → Replayed
+replayed a n h x = record { answer = a; records = n; handling = h; cluster = x }
 
--- From position i on, with n records read. The first number bounds the records that are left.
-unfoldable pub replayFrom : ℕ → List ℕ → ℕ → ℕ → Cluster → Replayed
-replayFrom zero bytes i n x = replayed Accepted n x
-replayFrom (suc left) bytes i n x =
+-- From position i on, with n records read and the last handling that they told. The first number bounds the records that are left.
+unfoldable pub replayFrom : ℕ → List ℕ → ℕ → ℕ → Handling → Cluster → Replayed
+replayFrom zero bytes i n h x = replayed Accepted n h x
+replayFrom (suc left) bytes i n h x =
     elim (given (readRecord bytes i)) [
-      | goes-on c j ↦ replayFrom left bytes j (n + 1) (perform c x .cluster)
-      | ends a counted ↦ replayed a (n + counted) x
+      | goes-on c j ↦ replayFrom left bytes j (n + 1) (latest h (perform c x .handling)) (perform c x .cluster)
+      | ends a counted ↦ replayed a (n + counted) h x
     ]
 
 unfoldable pub replayUnless : Answer → Cluster → List ℕ → Replayed
-replayUnless (Refused r) x bytes = replayed (Refused r) 0 x
-replayUnless Accepted x bytes = replayFrom (length bytes + 1) bytes 0 0 x
+replayUnless (Refused r) x bytes = replayed (Refused r) 0 None x
+replayUnless Accepted x bytes = replayFrom (length bytes + 1) bytes 0 0 None x
 
 -- Two tests come before any record.
 abbrev pub replayTests : Cluster → List ℕ → List Cause

@@ -3,6 +3,7 @@
 ghost use mathlib.Core.Path.{_≡_};
 ghost use Rattle.model.specs.Refusals.{refusalNumber, number};
 ghost use Rattle.model.specs.Reasons.{reasonNumber};
+ghost use Rattle.model.specs.Calls.{latest};
 
 // The sizes of the cluster: specs/States.antt has the same numbers under the same names.
 pub const LOCKS: usize = 8;
@@ -194,22 +195,34 @@ pub enum ReasonAnswer {
     Refused(Refusal),
 }
 
+// What a machine made of an ACQUIRE or RELEASE that was delivered to it: it has no agent; it has one that does not list the client of the RELEASE; or it took
+// it. None: the step was no such delivery, or was refused.
+pub enum Handling {
+    None,
+    NoAgent,
+    NotHolder,
+    Taken,
+}
+
 // What a step on one lock gives.
 pub struct Stepped {
     pub answer: Answer,
+    pub handling: Handling,
     pub state: LockState,
 }
 
 // What a call gives.
 pub struct Outcome {
     pub answer: Answer,
+    pub handling: Handling,
     pub cluster: Cluster,
 }
 
-// What a drain gives: the steps taken, 0 where it is refused.
+// What a drain gives: the steps taken, 0 where it is refused, and the last handling that one of them gave.
 pub struct Drained {
     pub answer: Answer,
     pub count: u16,
+    pub handling: Handling,
     pub cluster: Cluster,
 }
 
@@ -220,11 +233,27 @@ pub enum Reading {
     End,
 }
 
-// What the run of a transcript gives: the count of its records, the number of the bad one, or 0 where it is too long.
+// What the run of a transcript gives: the count of its records, the number of the bad one, or 0 where it is too long; and the last handling that a record's
+// step gave.
 pub struct Replayed {
     pub answer: Answer,
     pub records: u16,
+    pub handling: Handling,
     pub cluster: Cluster,
+}
+
+impl Handling {
+    // The one that is told next, or this one where that is none.
+    pub fn latest(self, next: Handling) -> Handling
+        ensures { λ r. ⌜ r ≡ latest self next ⌝ }
+    {
+        match next {
+            Handling::None => self,
+            Handling::NoAgent => Handling::NoAgent,
+            Handling::NotHolder => Handling::NotHolder,
+            Handling::Taken => Handling::Taken,
+        }
+    }
 }
 
 impl Refusal {

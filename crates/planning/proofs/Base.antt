@@ -12,7 +12,7 @@ pub use Rattle.model.specs.Lists.{removed}
 pub use Rattle.model.specs.States.{queueCapacity, wireCapacity, blankWaiter}
 unfoldable pub use Rattle.model.specs.States.{waiters, packets}
 pub use Rattle.model.specs.AtMachine.{grantOf}
-unfoldable pub use Rattle.model.specs.Calls.{delivers, acquireStep, releaseStep, takes, deliverStep}
+unfoldable pub use Rattle.model.specs.Calls.{delivers, handledAt, acquireStep, releaseStep, takes, deliverStep}
 pub use Rattle.laws.specs.Shapes.{packets-of, length-packets}
 pub use Rattle.parts.specs.Writes.{sized-less}
 pub use Rattle.parts.specs.Scans.{used-more, used-end}

@@ -2,6 +2,7 @@
 use model::Address;
 use model::Answer;
 use model::ClientId;
+use model::Handling;
 use model::LockState;
 use model::MachineId;
 use model::Message;
@@ -26,7 +27,7 @@ ghost use lib.ListN.{length, take};
 ghost use lib.Seq.{sets};
 ghost use Rattle.model.specs.Lists.{removed};
 ghost use Rattle.model.specs.States.{queueCapacity, wireCapacity, wireOf, packets};
-ghost use Rattle.model.specs.Changes.{apply, refused, finish};
+ghost use Rattle.model.specs.Changes.{apply, refused, finish, telling};
 ghost use Rattle.model.specs.AtMachine.{grantOf};
 ghost use Rattle.laws.specs.Shapes.{CanonicalWire};
 ghost use Rattle.rules.specs.Effects.{sentBy, verdictOf};
@@ -134,9 +135,11 @@ fn apply(k: MachineId, u: ClientId, e: Effect, rest: Wire, s: LockState) -> Lock
     }
 }
 
-// A step before it is made: its answer; where that accepts, the index of the packet taken off the wire, the machine and the client concerned, and the effect.
+// A step before it is made: its answer and the handling that it tells; where it is accepted, the index of the packet taken off the wire, the machine and the
+// client concerned, and the effect.
 pub struct Plan {
     pub answer: Answer,
+    pub handling: Handling,
     pub(crate) index: u8,
     pub(crate) machine: MachineId,
     pub(crate) client: ClientId,
@@ -146,16 +149,25 @@ pub struct Plan {
 // An index past the wire's end: no packet is taken off.
 pub(crate) const NONE_OFF: u8 = WIRE_CAPACITY as u8;
 
-// Refusals 9 and 10; n packets stay on the wire.
-pub(crate) fn plan_effect(k: MachineId, u: ClientId, e: Effect, i: u8, n: u8) -> Plan
+// Refusals 9 and 10; n packets stay on the wire. An accepted step tells the handling.
+pub(crate) fn plan_effect(
+    k: MachineId,
+    u: ClientId,
+    e: Effect,
+    handling: Handling,
+    i: u8,
+    n: u8,
+) -> Plan
     requires { ⌜ n ≤ wireCapacity ⌝ }
-    ensures { λ r. ⌜ ((s : LockState) → length (removed (packets (s .wire)) i) ≡ n → Plans r s (finish k u (verdictOf e) (removed (packets (s .wire)) i) s)) ⌝ }
+    ensures { λ r. ⌜ ((s : LockState) → length (removed (packets (s .wire)) i) ≡ n
+        → Plans r s (telling handling (finish k u (verdictOf e) (removed (packets (s .wire)) i) s))) ⌝ }
 {
     if e.placed {
         let m = sent_count(e.sends);
         if n + m <= WIRE_CAPACITY as u8 {
             Plan {
                 answer: Answer::Accepted,
+                handling,
                 index: i,
                 machine: k,
                 client: u,
@@ -175,6 +187,7 @@ pub fn refuse(n: Refusal) -> Plan
     let e = cannot_place();
     Plan {
         answer: Answer::Refused(n),
+        handling: Handling::None,
         index: NONE_OFF,
         machine: MachineId(0),
         client: ClientId(0),

@@ -4,8 +4,11 @@ use crate::plan::Plan;
 use crate::plan::plan_effect;
 use decider::at_decider;
 use machine::at_machine;
+use machine::handling;
 use model::Address;
+use model::AgentSlot;
 use model::ClientId;
+use model::Handling;
 use model::LockState;
 use model::MachineId;
 use model::Message;
@@ -20,7 +23,7 @@ use rules::leaving::release;
 use rules::site::site_of;
 ghost use mathlib.Core.Path.{_≡_};
 ghost use Prim.Native.Nat.{_<_};
-ghost use Rattle.model.specs.Calls.{machineAt, clientNamed, delivers, acquireStep, releaseStep, deliverStep};
+ghost use Rattle.model.specs.Calls.{handledAt, machineAt, clientNamed, delivers, acquireStep, releaseStep, deliverStep};
 ghost use Rattle.laws.specs.Shapes.{CanonicalQueue};
 ghost use Rattle.laws.specs.Formed.{Ready};
 ghost use Rattle.rules.specs.Effects.{verdictOf};
@@ -33,7 +36,7 @@ pub fn plan_acquire(s: LockState, c: ClientId, m: Mode) -> Plan
     let k = machine_of(c);
     let v = site_of(s, k, c);
     let e = acquire(v, c, m);
-    plan_effect(k, c, e, NONE_OFF, s.wire.len)
+    plan_effect(k, c, e, Handling::None, NONE_OFF, s.wire.len)
 }
 
 // A client that holds releases.
@@ -44,7 +47,7 @@ pub fn plan_release(s: LockState, c: ClientId) -> Plan
     let k = machine_of(c);
     let v = site_of(s, k, c);
     let e = release(v, c);
-    plan_effect(k, c, e, NONE_OFF, s.wire.len)
+    plan_effect(k, c, e, Handling::None, NONE_OFF, s.wire.len)
 }
 
 // The machine and the client that a delivery is about.
@@ -83,6 +86,16 @@ fn deliver(to: Address, v: Site, p: Packet) -> Effect
     }
 }
 
+// What the delivery tells: a machine's handling. The decider tells none.
+fn handled_at(to: Address, m: Message, x: AgentSlot) -> Handling
+    ensures { λ r. ⌜ r ≡ handledAt to m x ⌝ }
+{
+    match to {
+        Address::Decider => Handling::None,
+        Address::Machine(_) => handling(m, x),
+    }
+}
+
 pub fn plan_deliver(s: LockState, i: u8) -> Plan
     requires { ⌜ (Ready s) × (i < s .wire .len) ⌝ }
     ensures { λ r. ⌜ Plans r s (deliverStep s i) ⌝ }
@@ -93,6 +106,7 @@ pub fn plan_deliver(s: LockState, i: u8) -> Plan
     let k = machine_at(to);
     let c = client_named(m);
     let v = site_of(s, k, c);
+    let h = handled_at(to, m, v.slot);
     let e = deliver(to, v, p);
-    plan_effect(k, c, e, i, s.wire.len - 1)
+    plan_effect(k, c, e, h, i, s.wire.len - 1)
 }

@@ -22,8 +22,10 @@ fn drained(r: Progress, seed: u32, lock: u8) -> Progress {
     let x = r.cluster;
     let d = engine::drain(x, LockId(lock));
     let a = d.answer;
+    let told = d.handling;
     let y = d.cluster;
     let h = digest::byte(digest::byte(r.digest, 4), a.number());
+    let h = digest::handling(h, told);
     let h = digest::byte(
         digest::byte(h, (d.count % 256) as u8),
         (d.count / 256) as u8,
@@ -74,10 +76,12 @@ fn called(r: Progress, c: Choice) -> Progress {
     let o = perform(x, c);
     let a = o.answer;
     let n = a.number();
+    let told = o.handling;
     let y = o.cluster;
+    let h = digest::byte(digest::byte(r.digest, c.kind), n);
     Progress {
         cluster: y,
-        digest: digest::byte(digest::byte(r.digest, c.kind), n),
+        digest: digest::handling(h, told),
         accepted: counted(r.accepted, n),
     }
 }

@@ -1,18 +1,21 @@
 // A call, printed with its answer. After a refusal the line says whether the whole cluster is as it was.
+use crate::handlings;
 use by_hand::line::Numbers;
 use by_hand::line::numbers_in;
 use by_hand::line::place;
 use by_hand::print;
 use model::Cluster;
+use model::Handling;
 use model::LockId;
 use model::MachineId;
 use model::Outcome;
 use model::TaskId;
 
-// A call's answer and the cluster that it gives; of a drain, the steps.
+// A call's answer, the handling and the cluster that it gives; of a drain, the steps.
 struct Done {
     known: bool,
     answer: u8,
+    handling: Handling,
     drained: bool,
     steps: u16,
     cluster: Cluster,
@@ -20,10 +23,12 @@ struct Done {
 
 fn of_call(o: Outcome) -> Done {
     let a = o.answer;
+    let handling = o.handling;
     let cluster = o.cluster;
     Done {
         known: true,
         answer: a.number(),
+        handling,
         drained: false,
         steps: 0,
         cluster,
@@ -33,10 +38,12 @@ fn of_call(o: Outcome) -> Done {
 fn drained(x: Cluster, l: u8) -> Done {
     let d = engine::drain(x, LockId(l));
     let a = d.answer;
+    let handling = d.handling;
     let cluster = d.cluster;
     Done {
         known: true,
         answer: a.number(),
+        handling,
         drained: true,
         steps: d.count,
         cluster,
@@ -47,6 +54,7 @@ fn unknown(cluster: Cluster) -> Done {
     Done {
         known: false,
         answer: 0,
+        handling: Handling::None,
         drained: false,
         steps: 0,
         cluster,
@@ -95,13 +103,17 @@ fn answered(x: Cluster, d: Done) {
     }
 }
 
-// The call that s says: prints a and b, the answer, and c.
-fn told(x: Cluster, s: &[u8], a: &[u8], b: &[u8], c: &[u8]) -> Cluster {
+// The call that s says: prints a and b, the answer, the handling if that is asked for, and c.
+fn told(x: Cluster, s: &[u8], a: &[u8], b: &[u8], handled: bool, c: &[u8]) -> Cluster {
     let d = read(x, s);
     if d.known {
         print::text(a);
         print::text(b);
         answered(x, d);
+        if handled {
+            let h = d.handling;
+            handlings::told(h);
+        }
         print::text(c);
     } else {
         print::not_understood(s);
@@ -111,19 +123,24 @@ fn told(x: Cluster, s: &[u8], a: &[u8], b: &[u8], c: &[u8]) -> Cluster {
 
 // The text and the answer on a line.
 pub fn called(x: Cluster, s: &[u8]) -> Cluster {
-    told(x, s, s, b": ", b"\n")
+    told(x, s, s, b": ", false, b"\n")
 }
 
-// The same, where the cluster that the call gives is not kept.
+// The same, with the handling behind the answer.
+pub fn handled(x: Cluster, s: &[u8]) -> Cluster {
+    told(x, s, s, b": ", true, b"\n")
+}
+
+// The same as `called`, where the cluster that the call gives is not kept.
 pub fn tried(x: Cluster, s: &[u8]) {
     called(x, s);
 }
 
 // The answer alone, behind a word.
 pub fn inside(x: Cluster, s: &[u8]) {
-    told(x, s, b": ", b"inside ", b"");
+    told(x, s, b": ", b"inside ", false, b"");
 }
 
 pub fn outside(x: Cluster, s: &[u8]) {
-    told(x, s, b", ", b"outside ", b"\n");
+    told(x, s, b", ", b"outside ", false, b"\n");
 }

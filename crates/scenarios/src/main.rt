@@ -1,9 +1,11 @@
 // Runs the script on standard input, which makes states by hand, calls on them and prints the answers. The file stdin is the script, and says at its
-// top what a script has; the file stdout was written by hand from document 01.
+// top what a script has; the file stdout was written by hand from documents 01 and 02.
 mod call;
+mod handlings;
 mod reasons;
 mod script;
 mod show;
+mod transcripts;
 
 fn main() {
     let mut bytes = io::large_buffer();

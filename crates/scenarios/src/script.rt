@@ -2,6 +2,8 @@
 use crate::call;
 use crate::reasons;
 use crate::show;
+use crate::transcripts;
+use crate::transcripts::Records;
 use by_hand::agents;
 use by_hand::line;
 use by_hand::line::Numbers;
@@ -14,23 +16,26 @@ use model::Cluster;
 use model::LOCKS;
 use model::Packet;
 
-// The cluster of the next call, the one that was kept, and the agent and the packet in the making.
+// The cluster of the next call, the one that was kept, and the agent, the packet and the transcript in the making.
 pub struct Made {
     pub cluster: Cluster,
     pub kept: Cluster,
     pub slot: AgentSlot,
     pub packet: Packet,
+    pub records: Records,
 }
 
 fn nothing() -> Made {
     let cluster = engine::fresh();
     let slot = agents::slot(false, 2);
     let packet = packets::blank();
+    let records = transcripts::none();
     Made {
         cluster,
         kept: cluster,
         slot,
         packet,
+        records,
     }
 }
 
@@ -66,6 +71,25 @@ fn with_call(mut m: Made, s: &[u8]) -> Made {
     m
 }
 
+fn with_handling(mut m: Made, s: &[u8]) -> Made {
+    let x = call::handled(m.cluster, s);
+    m.cluster = x;
+    m
+}
+
+fn with_record(mut m: Made, s: &[u8], n: Numbers) -> Made {
+    let r = transcripts::recorded(m.records, s, n);
+    m.records = r;
+    m
+}
+
+fn with_replay(mut m: Made, s: &[u8]) -> Made {
+    let x = transcripts::replayed(m.cluster, m.records, s);
+    m.cluster = x;
+    m.records = transcripts::none();
+    m
+}
+
 fn keeping(mut m: Made) -> Made {
     let x = m.cluster;
     m.kept = x;
@@ -94,6 +118,9 @@ fn changed(m: Made, k: usize, s: &[u8], r: &[u8], n: Numbers) -> Made {
         9 => with_lock(m, r, n),
         10 => with_slot(m, r, n),
         11 => with_packet(m, r, n),
+        12 => with_handling(m, r),
+        13 => with_record(m, r, n),
+        14 => with_replay(m, r),
         _ => with_call(m, s),
     }
 }
@@ -103,7 +130,7 @@ fn command(m: Made, s: &[u8]) -> Made {
     let k = line::place(
         s,
         0,
-        b"*say *bound *show *try *inside *outside *reason *fresh *keep *lock *agent *packet",
+        b"*say *bound *show *try *inside *outside *reason *fresh *keep *lock *agent *packet *handled *record *replay",
     );
     if k < 7 {
         printed(m, k, rest(s));

@@ -10,7 +10,7 @@ use Rattle.theorems.specs.Names.{Grant, Release, Packet, Status, Idle, W
 use Rattle.theorems.specs.Names.{Outcome, _≡_, refl, sym, ap, _∙_, Bool, true, false, _&&_, not, false≢true, List, [], _∷_, ℕ, zero, suc, _+_, _≤_, _<_}
 use Rattle.theorems.specs.Names.{arith, length, eqb, eqb-true, eq-eqb, lt-leb, pick, all, removed, clientOf, statusOf, lockIn, packets, freshLock}
 use Rattle.theorems.specs.Names.{wellFormed, isHolding, packetAt, after, answersOf, deliverStep, settled, perform, lockOf, run, View, isAccepted}
-use Rattle.theorems.specs.Names.{toMachine}
+use Rattle.theorems.specs.Names.{toMachine, None, handlingsOf, lastTold}
 use Rattle.theorems.specs.Names.{isGrantFor, showsGrant, afterGrant, afterRelease, sees, watch, and-left, locks, fresh, inParts}
 use Rattle.theorems.specs.Weights.{statusAt, waitF, holdF, few}
 use Rattle.theorems.specs.Invariant.{Inv}
@@ -195,7 +195,13 @@ ends (suc n) x l lb h b = go (onward x l lb h) (λ y i. ends n y l lb i)
 
 -- ---- the call itself
 drain-is : (x : Cluster) (l : LockId) → wellFormed x ≡ true → l .0 < locks → drainage allowance l x .answer ≡ Accepted
-    → drain x l ≡ record { answer = Accepted; count = length (drainCalls l x); cluster = drainage allowance l x .cluster }
+    → drain x l
+    ≡ record {
+      answer = Accepted;
+      count = length (drainCalls l x);
+      handling = lastTold None (handlingsOf (drainCalls l x) x);
+      cluster = drainage allowance l x .cluster;
+    }
 unfolding drain drainUnless drainEnded first
 drain-is x l w lb e = rw (w, lt-leb locks (l .0) lb, e)
 

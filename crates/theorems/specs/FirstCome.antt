@@ -2,15 +2,14 @@
 use Rattle.model.specs.AtMachine.{mayLeave}
 use Rattle.laws.specs.Tests.{pick-by}
 use Rattle.laws.specs.Formed.{parts, packet-at, lock-formed}
-use Rattle.laws.specs.CallSteps.{may-deliver, CallCases, denied, passed, call-cases, settled-answer, perform-here}
+use Rattle.laws.specs.CallSteps.{Allowed, may-deliver, perform-here, not-accepted, Passes, passes}
 use Rattle.theorems.specs.Names.{LockId, MachineId, ClientId, Mode, Exclusive, Shared, Waiter, Agent, ToMachine, Grant, Packet, Holding, LockState}
-use Rattle.theorems.specs.Names.{Cluster, DeliverCall, Refusal, Accepted, Refused, Stepped, Outcome, _≡_, refl, sym, ap, _∙_, Bool, true, false}
-use Rattle.theorems.specs.Names.{_&&_, not, true≢false, false≢true, isAccepted, List, [], _∷_, _++_, map, ℕ, _+_, _<_, arith, length, getD-set-same}
-use Rattle.theorems.specs.Names.{leb, ltb-true, all, removed, isShared, waiters, someAgent, noAgent, agentOn, carrying, packets, lockIn, wellFormed}
+use Rattle.theorems.specs.Names.{Cluster, DeliverCall, Accepted, Stepped, _≡_, refl, ap, Bool, true, false}
+use Rattle.theorems.specs.Names.{_&&_, not, true≢false, List, [], _∷_, _++_, map, ℕ, _+_, _<_, arith, length, getD-set-same}
+use Rattle.theorems.specs.Names.{leb, ltb-true, all, removed, isShared, waiters, someAgent, noAgent, agentOn, carrying, packets, lockIn}
 use Rattle.theorems.specs.Names.{siteOf, withSlot, withStatus, apply, finish, grantOf, admitted, staying, installed, installs, grantArrives, arrives}
-use Rattle.theorems.specs.Names.{atMachine, packetAt, delivers, takes, deliverStep, unless, deliver, perform, and-right, both, bool-cases}
+use Rattle.theorems.specs.Names.{atMachine, packetAt, delivers, takes, deliverStep, deliver, perform, and-right, both, bool-cases}
 use Rattle.theorems.specs.Names.{waiters-of, packets-of, none-leaves, machines, wireCapacity}
-use Rattle.model.specs.Refusals.{first}
 use lib.ListN.{take}
 use Rattle.theorems.specs.Statements.{FirstCome, FirstServed}
 
@@ -32,9 +31,6 @@ module _ (m : Mode) where
   barred (w ∷ ws) = bool-cases (mayLeave m w) (λ e. rw e (barred ws)) (λ e. rw e (ap (λ (b : Bool). not b && true) e))
 
 -- ---- of a delivery
-not-accepted : {r : Refusal} → Refused r ≡ Accepted → ⊥
-not-accepted e = false≢true (ap isAccepted e)
-
 module _ (s : LockState) (i : ℕ) (k : MachineId) (c : ClientId) (m : Mode) (a : Agent) (brings : packetAt s i ≡ carrying (Grant c m) (ToMachine k) a) where
   abbrev rest : List Packet
   rest = removed (packets (s .wire)) i
@@ -79,24 +75,17 @@ module _ (s : LockState) (i : ℕ) (k : MachineId) (c : ClientId) (m : Mode) (a 
           pick-by (λ (t : Stepped). t .answer ≡ Accepted → FirstCome s (t .state) i k m a) (leb (length rest + length sent) wireCapacity)
           (λ q z. installed-so h) (λ q z. absurd (not-accepted z)) e
 
--- ---- of a call: on a malformed cluster none is accepted
-accepted-formed : (x : Cluster) (l : LockId) (i : ℕ) → deliver x l i .answer ≡ Accepted → wellFormed x ≡ true
-unfolding deliver unless first
-accepted-formed x l i e = bool-cases (wellFormed x) (λ w. w) (λ w. absurd (not-accepted (rw w at e)))
-
+-- ---- of a call
 pub first-come : (x : Cluster) (l : LockId) (i : ℕ) → FirstServed x l i
 unfolding perform
-first-come x l i k c m a brings e = go (call-cases (DeliverCall l i) x w)
+first-come x l i k c m a brings e = go (g .allowed)
   where
-    w : wellFormed x ≡ true
-    w = accepted-formed x l i e
+    g : Passes (DeliverCall l i) x
+    g = passes (DeliverCall l i) x e
 
-    go : CallCases (DeliverCall l i) x → FirstCome (lockIn x l) (lockIn (deliver x l i .cluster) l) i k m a
-    go (denied r b n q) = absurd (not-accepted (sym (ap (λ (o : Outcome). o .answer) q) ∙ e))
-    go (passed b (may-deliver h) q) =
+    go : Allowed (DeliverCall l i) (lockIn x l) → FirstCome (lockIn x l) (lockIn (deliver x l i .cluster) l) i k m a
+    go (may-deliver h) =
         let s : LockState = lockIn x l in
-        let p = parts s (lock-formed x l w b) in
+        let p = parts s (lock-formed x l (g .formed) (g .inside)) in
         let kk : k .0 < machines = ltb-true (k .0) machines (rw brings at (packet-at p i h .address)) in
-        let f : deliverStep s i .answer ≡ Accepted =
-        sym (settled-answer _ x l (deliverStep s i .state)) ∙ sym (ap (λ (o : Outcome). o .answer) q) ∙ e in
-        rw (perform-here (DeliverCall l i) x w b q) (delivered-so s i k c m a brings (omega (arith, p .all-machines)) f)
+        rw (perform-here (DeliverCall l i) x (g .formed) (g .inside) (g .call)) (delivered-so s i k c m a brings (omega (arith, p .all-machines)) (g .step))

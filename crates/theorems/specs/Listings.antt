@@ -8,54 +8,58 @@ use Rattle.model.specs.Listing.{Row, rowOf, digit, digitOf, decimal, header, wi
 use Rattle.laws.specs.Records.{record-ends, record-kind, end-at, at-record, at-bad, at-end}
 use Rattle.theorems.specs.Names.{Cluster, Call, Refusal, Answer, Accepted, Refused, _≡_, refl, sym, ap, _∙_, List, [], _∷_, _++_, map, ℕ, zero, suc, _+_}
 use Rattle.theorems.specs.Names.{_-_, _*_, _≤_, arith, Bool, true, false, not, pick, eqb, ltb, ltb-false, length, length-append, perform, run}
-use Rattle.theorems.specs.Names.{answersOf, number, refusalNumber, wellFormed, Malformed, TranscriptLength, BadRecord}
+use Rattle.theorems.specs.Names.{answersOf, number, refusalNumber, wellFormed, Malformed, TranscriptLength, BadRecord, Handling, None, handlingsOf}
+use Rattle.theorems.specs.Names.{latest, lastTold}
 use Rattle.theorems.specs.Statements.{rowsOf, linesOf, lastLine, lastRecords, Listed, longestListing, ListsAll}
 use mathlib.Core.List.{append-assoc}
 
 -- ---- From position i on, with n records read: so many calls are left at most, and each record takes some of the bytes.
-record From (left : ℕ) (bytes : List ℕ) (i n : ℕ) (x : Cluster) : Type 0 where
-  runs : replayFrom (suc left) bytes i n x .cluster ≡ run (callsFrom left bytes i) x
-  counts : replayFrom (suc left) bytes i n x .records ≡ n + (length (callsFrom left bytes i) + lastRecords (replayFrom (suc left) bytes i n x .answer))
+record From (left : ℕ) (bytes : List ℕ) (i n : ℕ) (h : Handling) (x : Cluster) : Type 0 where
+  runs : replayFrom (suc left) bytes i n h x .cluster ≡ run (callsFrom left bytes i) x
+  told : replayFrom (suc left) bytes i n h x .handling ≡ lastTold h (handlingsOf (callsFrom left bytes i) x)
+  counts : replayFrom (suc left) bytes i n h x .records ≡ n + (length (callsFrom left bytes i) + lastRecords (replayFrom (suc left) bytes i n h x .answer))
   lines : linesFrom (suc left) bytes i n x
       ≡ linesOf n (rowsOf (callsFrom left bytes i) x)
-      ++ lastLine (replayFrom (suc left) bytes i n x .answer) (replayFrom (suc left) bytes i n x .records)
+      ++ lastLine (replayFrom (suc left) bytes i n h x .answer) (replayFrom (suc left) bytes i n h x .records)
 
 module _ (bytes : List ℕ) where
-  from-end : (left i n : ℕ) (x : Cluster) → callsFrom left bytes i ≡ [] → readRecord bytes i ≡ End → From left bytes i n x
-  unfolding run
-  from-end left i n x q e =
-      let s = at-end left bytes i n x e in
-      record { runs = rw (s .run, q); counts = rw (s .run, q) (omega arith); lines = rw (s .lines, s .run, q) }
+  from-end : (left i n : ℕ) (h : Handling) (x : Cluster) → callsFrom left bytes i ≡ [] → readRecord bytes i ≡ End → From left bytes i n h x
+  unfolding run lastTold
+  from-end left i n h x q e =
+      let s = at-end left bytes i n h x e in
+      record { runs = rw (s .run, q); told = rw (s .run, q); counts = rw (s .run, q) (omega arith); lines = rw (s .lines, s .run, q) }
 
-  from-bad : (left i n : ℕ) (x : Cluster) → readRecord bytes i ≡ Bad → From (suc left) bytes i n x
-  unfolding run
-  from-bad left i n x e =
-      let s = at-bad (suc left) bytes i n x e in
-      let q = at-bad left bytes i n x e .calls in
-      record { runs = rw (s .run, q); counts = rw (s .run, q) (omega arith); lines = rw (s .lines, s .run, q) }
+  from-bad : (left i n : ℕ) (h : Handling) (x : Cluster) → readRecord bytes i ≡ Bad → From (suc left) bytes i n h x
+  unfolding run lastTold
+  from-bad left i n h x e =
+      let s = at-bad (suc left) bytes i n h x e in
+      let q = at-bad left bytes i n h x e .calls in
+      record { runs = rw (s .run, q); told = rw (s .run, q); counts = rw (s .run, q) (omega arith); lines = rw (s .lines, s .run, q) }
 
-  from-record : (left i n : ℕ) (x : Cluster) (c : Call) (j : ℕ) → readRecord bytes i ≡ Record c j → From left bytes j (n + 1) (perform c x .cluster)
-      → From (suc left) bytes i n x
-  unfolding run
-  from-record left i n x c j e f =
-      let s = at-record (suc left) bytes i n x c j e in
-      let q = at-record left bytes i n x c j e .calls in
+  from-record : (left i n : ℕ) (h : Handling) (x : Cluster) (c : Call) (j : ℕ) → readRecord bytes i ≡ Record c j
+      → From left bytes j (n + 1) (latest h (perform c x .handling)) (perform c x .cluster) → From (suc left) bytes i n h x
+  unfolding run lastTold
+  from-record left i n h x c j e f =
+      let s = at-record (suc left) bytes i n h x c j e in
+      let q = at-record left bytes i n h x c j e .calls in
       record {
         runs = rw (s .run, q) (f .runs);
+        told = rw (s .run, q) (f .told);
         counts = rw (s .run, q) (omega (arith, f .counts));
         lines = rw (s .lines, s .run, q, f .lines) (sym (append-assoc (lineOf (n + 1) (rowOf c x)) _ _));
       }
 
-  from : (left i n : ℕ) (x : Cluster) → length bytes ≤ i + left → From left bytes i n x
+  from : (left i n : ℕ) (h : Handling) (x : Cluster) → length bytes ≤ i + left → From left bytes i n h x
   unfolding callsFrom
-  from zero i n x h = from-end zero i n x refl (end-at bytes i (omega arith))
-  from (suc left) i n x h = go (readRecord bytes i) refl (λ c j e. from left j (n + 1) _ (omega (arith, record-ends bytes i c j e)))
+  from zero i n h x b = from-end zero i n h x refl (end-at bytes i (omega arith))
+  from (suc left) i n h x b = go (readRecord bytes i) refl (λ c j e. from left j (n + 1) _ _ (omega (arith, record-ends bytes i c j e)))
     where
-      go : (r : Reading) → readRecord bytes i ≡ r → ((c : Call) (j : ℕ) → readRecord bytes i ≡ Record c j → From left bytes j (n + 1) (perform c x .cluster))
-          → From (suc left) bytes i n x
-      go (Record c j) e f = from-record left i n x c j e (f c j e)
-      go Bad e f = from-bad left i n x e
-      go End e f = from-end (suc left) i n x (at-end left bytes i n x e .calls) e
+      go : (r : Reading) → readRecord bytes i ≡ r
+          → ((c : Call) (j : ℕ) → readRecord bytes i ≡ Record c j → From left bytes j (n + 1) (latest h (perform c x .handling)) (perform c x .cluster))
+          → From (suc left) bytes i n h x
+      go (Record c j) e f = from-record left i n h x c j e (f c j e)
+      go Bad e f = from-bad left i n h x e
+      go End e f = from-end (suc left) i n h x (at-end left bytes i n h x e .calls) e
 
 rows-length : (cs : List Call) (x : Cluster) → length (rowsOf cs x) ≡ length cs
 rows-length [] x = refl
@@ -69,9 +73,10 @@ tested : (x : Cluster) (bytes : List ℕ) → first (replayTests x bytes) ≡ Ac
 unfolding replay replayUnless listing linesUnless
 tested x bytes e =
     let z : length bytes + 1 ≡ suc (length bytes) = omega arith in
-    let f = from bytes (length bytes) 0 0 x (omega arith) in
+    let f = from bytes (length bytes) 0 0 None x (omega arith) in
     record {
       runs = rw (e, z) (f .runs);
+      told = rw (e, z) (f .told);
       counts = rw (e, z) (omega (arith, f .counts));
       lines = rw (e, z, f .lines);
       rows = rows-length (callsFrom (length bytes) bytes 0) x;
@@ -118,9 +123,9 @@ module _ (bytes : List ℕ) where
           → length (linesFrom (suc left) bytes i n x) ≤ 4 * (length bytes - i) + 24
       go (Record c j) e f =
           let b = record-ends bytes i c j e in
-          rw (at-record left bytes i n x c j e .lines) (simp length-append (omega (arith, line-short (n + 1) (rowOf c x), f c j (b .1), b)))
-      go Bad e f = rw (at-bad left bytes i n x e .lines) (omega (arith, refused-short (n + 1) BadRecord))
-      go End e f = rw (at-end left bytes i n x e .lines) (omega arith)
+          rw (at-record left bytes i n None x c j e .lines) (simp length-append (omega (arith, line-short (n + 1) (rowOf c x), f c j (b .1), b)))
+      go Bad e f = rw (at-bad left bytes i n None x e .lines) (omega (arith, refused-short (n + 1) BadRecord))
+      go End e f = rw (at-end left bytes i n None x e .lines) (omega arith)
 
 listing-short : (x : Cluster) (bytes : List ℕ) → length (listing x bytes) ≤ longestListing
 unfolding listing linesUnless header first

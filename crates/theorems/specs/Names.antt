@@ -14,6 +14,7 @@ pub use Rattle.model.specs.declared.{Refusal.the-variants.{IndexRange, CannotPl
 pub use Rattle.model.specs.declared.{Answer.Answer, Answer.the-variants.{Accepted, Refused}}
 pub use Rattle.model.specs.declared.{Reason.Reason, Reason.the-variants.{Requested, Granted, Rejected, Queued, Carried}}
 pub use Rattle.model.specs.declared.{ReasonAnswer.ReasonAnswer, ReasonAnswer.the-variants.{Because, Refused as NoReason}}
+pub use Rattle.model.specs.declared.{Handling.Handling, Handling.the-variants.{None, NoAgent, NotHolder, Taken}}
 pub use Rattle.model.specs.declared.{Stepped.Stepped, Outcome.Outcome, Drained.Drained}
 -- ---- the library
 pub use mathlib.Core.Path.{_≡_, refl, sym, ap, _∙_}
@@ -40,11 +41,13 @@ pub use Rattle.model.specs.Asking.{changed, joining, queuing, noRoom, withRoom,
 unfoldable pub use Rattle.model.specs.Asking.{mayJoin, clientAsks, clientAcquires, handOver, staysIf, clientReleases}
 pub use Rattle.model.specs.AtDecider.{next, ownedShared, grantsFirst, shares, current, rejects, passesOn}
 unfoldable pub use Rattle.model.specs.AtDecider.{mayShare, toOwner, decidesAcquire, decidesFree, decidesGrant, decides, atDecider}
-pub use Rattle.model.specs.AtMachine.{sendsBack, grantOf, installed, requeued}
+pub use Rattle.model.specs.AtMachine.{sentBack, sendsBack, grantOf, installed, requeued}
 unfoldable pub use Rattle.model.specs.AtMachine.{admitted, staying, joined, installs, grantArrives, rejectedGrantArrives, marked, unmarked, acquireArrives}
-unfoldable pub use Rattle.model.specs.AtMachine.{releaseArrives, freeArrives, arrives, atMachine}
+unfoldable pub use Rattle.model.specs.AtMachine.{releaseArrives, freeArrives, arrives, atMachine, handles}
 pub use Rattle.model.specs.Calls.{refusing, isHolding, messageNames, names, machineAt, clientNamed, packetAt, answersOf, after, lockOf}
+pub use Rattle.model.specs.Calls.{handlingsOf, latest}
 unfoldable pub use Rattle.model.specs.Calls.{delivers, acquireStep, releaseStep, takes, deliverStep, settled, unless, acquire, release, deliver, perform, run}
+unfoldable pub use Rattle.model.specs.Calls.{handledAt, lastTold}
 pub use Rattle.model.specs.Refusals.{refusalNumber, number}
 pub use Rattle.model.specs.Counts.{agentsIn, isMarked, marksIn, uncounted}
 pub use Rattle.model.specs.Trace.{View, unseen, isAccepted, toMachine, isGrantFor, showsGrant, afterAcquire}

@@ -12,7 +12,7 @@ use Rattle.theorems.specs.Names.{current, packetAt, run, answersOf, perf
 use Rattle.theorems.specs.Names.{after, _++_, map, Packet, MachineId, Unowned, Owned, LockState, Bool, false, not, _||_, count, agentOn, ownedShared}
 use Rattle.theorems.specs.Names.{names, isFree, agentsIn, marksIn, uncounted, TaskId, Reason, ReasonAnswer, Because, machines, tasks, clientOf}
 use Rattle.theorems.specs.Names.{isTrue, reasonIn, reason, reasonNumber, reasonValues, Waiter, Agent, ToMachine, Grant, _&&_, isShared, waiters, carrying}
-use Rattle.theorems.specs.Names.{removed, grantOf, deliver}
+use Rattle.theorems.specs.Names.{removed, grantOf, deliver, None, handlingsOf, lastTold}
 use lib.ListN.{take}
 
 -- Different answers have different numbers, and 0 is the number of the accepted alone.
@@ -96,10 +96,11 @@ abbrev pub lastRecords : Answer → ℕ
 lastRecords Accepted = 0
 lastRecords (Refused r) = 1
 
--- A transcript that passes the two tests: its run makes the calls of its records, each once and in order. The listing has a line for each of them, with
--- that call's outcome, and one more for a bad record: as many lines as the run counts records.
+-- A transcript that passes the two tests: its run makes the calls of its records, each once and in order, and tells the last handling of theirs. The listing
+-- has a line for each of them, with that call's outcome, and one more for a bad record: as many lines as the run counts records.
 pub record Listed (x : Cluster) (bytes : List ℕ) : Type 0 where
   pub runs : replay x bytes .cluster ≡ run (callsOf bytes) x
+  pub told : replay x bytes .handling ≡ lastTold None (handlingsOf (callsOf bytes) x)
   pub counts : replay x bytes .records ≡ length (callsOf bytes) + lastRecords (replay x bytes .answer)
   pub lines : listing x bytes ≡ header ++ (linesOf 0 (rowsOf (callsOf bytes) x) ++ lastLine (replay x bytes .answer) (replay x bytes .records))
   pub rows : length (rowsOf (callsOf bytes) x) ≡ length (callsOf bytes)
@@ -114,7 +115,7 @@ longestListing = 19 + (4 * 65535 + 24)
 pub record ListsAll (x : Cluster) (bytes : List ℕ) : Type 0 where
   pub tested : first (replayTests x bytes) ≡ Accepted → Listed x bytes
   pub refused : (r : Refusal) → first (replayTests x bytes) ≡ Refused r
-      → (replay x bytes ≡ replayed (Refused r) 0 x) × (listing x bytes ≡ header ++ refusedLine 0 r)
+      → (replay x bytes ≡ replayed (Refused r) 0 None x) × (listing x bytes ≡ header ++ refusedLine 0 r)
   pub kinds : (i : ℕ) (c : Call) (j : ℕ) → readRecord bytes i ≡ Record c j → kindOf c ≡ short bytes (i + 2)
   pub fits : length (listing x bytes) ≤ longestListing
 

@@ -76,4 +76,6 @@ sound-release r i c m cl ho = sound _ _ _ (packets (r .wire)) r (good-client-rel
 
 pub sound-deliver : (r : LockState) (i : Inv r) (j : ℕ) → j < length (packets (r .wire)) → Sound (deliverStep r j)
 unfolding deliverStep takes
-sound-deliver r i j h = sound _ _ (verdict r (packetAt r j)) (removed (packets (r .wire)) j) r (good-deliver r i j h)
+sound-deliver r i j h =
+    let g = sound _ _ (verdict r (packetAt r j)) (removed (packets (r .wire)) j) r (good-deliver r i j h) in
+    record { taken = g .taken; inv = g .inv }

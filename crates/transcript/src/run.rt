@@ -10,6 +10,7 @@ use listing::put_refused;
 use model::Answer;
 use model::Call;
 use model::Cluster;
+use model::Handling;
 use model::LOCKS;
 use model::Reading;
 use model::Refusal;
@@ -19,6 +20,7 @@ ghost use mathlib.Core.Path.{_≡_};
 ghost use mathlib.Core.Bool.{true};
 ghost use Prim.Native.Nat.{_+_, _≤_};
 ghost use lib.ListN.{length};
+ghost use Rattle.model.specs.declared.Handling.the-variants.{None};
 ghost use Rattle.model.specs.WellFormed.{wellFormed};
 ghost use Rattle.model.specs.Transcripts.{replayed, replayFrom, replay};
 ghost use Rattle.model.specs.Listing.{kindOf, linesFrom, listing, filled, put};
@@ -48,12 +50,19 @@ fn kind_of(c: Call) -> u8
     }
 }
 
-fn ended(answer: Answer, records: u16, cluster: Cluster, written: usize) -> Listed
-    ensures { λ r. ⌜ (r .outcome ≡ replayed answer records cluster) × (r .written ≡ written) ⌝ }
+fn ended(
+    answer: Answer,
+    records: u16,
+    handling: Handling,
+    cluster: Cluster,
+    written: usize,
+) -> Listed
+    ensures { λ r. ⌜ (r .outcome ≡ replayed answer records handling cluster) × (r .written ≡ written) ⌝ }
 {
     let outcome = Replayed {
         answer,
         records,
+        handling,
         cluster,
     };
     Listed { outcome, written }
@@ -62,13 +71,14 @@ fn ended(answer: Answer, records: u16, cluster: Cluster, written: usize) -> List
 // Each record's call is made, whatever it answers; a lock out of range has no state to step on, and no wire.
 fn run_records(x: Cluster, bytes: &[u8], out: &mut [u8], start: usize) -> Listed
     requires { ⌜ (wellFormed x ≡ true) × (length (now bytes) ≤ 65535) ⌝ }
-    ensures { λ r. ⌜ (r .outcome ≡ replayFrom (length (now (bytes .entry)) + 1) (now (bytes .entry)) 0 0 x)
+    ensures { λ r. ⌜ (r .outcome ≡ replayFrom (length (now (bytes .entry)) + 1) (now (bytes .entry)) 0 0 None x)
         × (filled (now (out .exit)) (r .written)
         ≡ put (linesFrom (length (now (bytes .entry)) + 1) (now (bytes .entry)) 0 0 x) (filled (now (out .entry)) start)) ⌝ }
 {
     let mut y = x;
     let mut at: usize = 0;
     let mut n: u16 = 0;
+    let mut h = Handling::None;
     let mut k = start;
     loop {
         let r = read_at(bytes, at);
@@ -82,6 +92,8 @@ fn run_records(x: Cluster, bytes: &[u8], out: &mut [u8], start: usize) -> Listed
                     let s = y.locks[i];
                     let p = plan_call(call, s);
                     a = p.answer;
+                    let next = p.handling;
+                    h = h.latest(next);
                     match a {
                         Answer::Accepted => {
                             let t = carry_out(p, s);
@@ -99,10 +111,10 @@ fn run_records(x: Cluster, bytes: &[u8], out: &mut [u8], start: usize) -> Listed
             }
             Reading::Bad => {
                 let k = put_refused(out, k, n + 1, Refusal::BadRecord);
-                return ended(Answer::Refused(Refusal::BadRecord), n + 1, y, k);
+                return ended(Answer::Refused(Refusal::BadRecord), n + 1, h, y, k);
             }
             Reading::End => {
-                return ended(Answer::Accepted, n, y, k);
+                return ended(Answer::Accepted, n, h, y, k);
             }
         }
     }
@@ -119,11 +131,17 @@ pub fn list(x: Cluster, bytes: &[u8], out: &mut [u8]) -> Listed
             run_records(x, bytes, out, k)
         } else {
             let k = put_refused(out, k, 0, Refusal::TranscriptLength);
-            ended(Answer::Refused(Refusal::TranscriptLength), 0, x, k)
+            ended(
+                Answer::Refused(Refusal::TranscriptLength),
+                0,
+                Handling::None,
+                x,
+                k,
+            )
         }
     } else {
         let k = put_refused(out, k, 0, Refusal::Malformed);
-        ended(Answer::Refused(Refusal::Malformed), 0, x, k)
+        ended(Answer::Refused(Refusal::Malformed), 0, Handling::None, x, k)
     }
 }
 

@@ -5,7 +5,7 @@ use reference::model::{
     Address, Agent, ClientId, ClientStatus, Cluster, LockId, LockState, MachineId, Message, Mode,
     Packet, TaskId, Waiter,
 };
-use reference::{answer_number, Outcome};
+use reference::{answer_number, Drained, Handling, Refusal};
 
 pub const LOCK: LockId = LockId(0);
 pub const EXCLUSIVE: u8 = 2;
@@ -23,8 +23,13 @@ pub fn deliver(cluster: &mut Cluster, index: u8) -> u8 {
     answer(cluster.deliver(LOCK, index))
 }
 
-pub fn answer(outcome: Outcome) -> u8 {
+pub fn answer<T>(outcome: Result<T, Refusal>) -> u8 {
     answer_number(&outcome)
+}
+
+/// The outcome of an accepted drain.
+pub fn drained(count: u16, handling: Handling) -> Result<Drained, Refusal> {
+    Ok(Drained { count, handling })
 }
 
 /// Asserts that every call of a list is accepted.

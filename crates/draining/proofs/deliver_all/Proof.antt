@@ -12,14 +12,16 @@ deliver-all-spec = tie.close (tie.spec (Since Busy) (λ _ d. d .left) (λ c. (al
     (λ c κs. let b = c .before .before in
     let o = b .before .before .before .before .loop .inv .0 .0 in
     (ready _ (o .formed) .wire, b .before .plan-deliver .ensures .fits (within-made (b .step-answer .ensures) (c .enum-told .given .1) .1)))
-    (λ c. let m = within-made (c .before .before .before .before .step-answer .ensures) (c .before .before .enum-told .given .1) in omega (arith, m .0))
-    (λ c. let m = within-made (c .before .before .before .before .step-answer .ensures) (c .before .before .enum-told .given .1) in omega (arith, m .0))
-    (λ c. let b = c .before .before .before .before in
+    (search needs)
+    (λ c. let e = c .before .before .before in let m = within-made (e .before .before .step-answer .ensures) (e .enum-told .given .1) in omega (arith, m .0))
+    (λ c. let e = c .before .before .before in let m = within-made (e .before .before .step-answer .ensures) (e .enum-told .given .1) in omega (arith, m .0))
+    (λ c. let e = c .before .before .before in
+    let b = e .before .before in
     let f = b .before .before in
     let i = f .before .before .loop .inv in
     let g = delivery-planned _ (i .0 .0 .formed) _ (f .if1 .taken) (b .before .plan-deliver .ensures) in
-    rw (c .before .carry-out .ensures)
-    (since-next Busy i (progress-made (i .0 .0, g) (b .step-answer .ensures) (c .before .before .enum-told .given .1)) (i .0 .0 .goes)))
+    rw (c .before .told-next .ensures, c .before .before .carry-out .ensures)
+    (since-next Busy i (progress-made (i .0 .0, g) (b .step-answer .ensures) (e .enum-told .given .1)) (i .0 .0 .goes)))
     (search needs) (search needs)
     (λ c. let b = c .before .before .before in
     let f = b .before .before in

@@ -17,14 +17,16 @@ release-all-spec = tie.close (tie.spec (Since Quiet) (λ _ d. d .left) (λ c. (a
     (λ c κs. let b = c .before .before in
     let o = b .before .before .before .before .before .before .before .loop .inv .0 .0 in
     (ready _ (o .formed) .wire, b .before .plan-release .ensures .fits (within-made (b .step-answer .ensures) (c .enum-told .given .1) .1)))
-    (λ c. let m = within-made (c .before .before .before .before .step-answer .ensures) (c .before .before .enum-told .given .1) in omega (arith, m .0))
-    (λ c. let m = within-made (c .before .before .before .before .step-answer .ensures) (c .before .before .enum-told .given .1) in omega (arith, m .0))
-    (λ c. let b = c .before .before .before .before in
+    (search needs)
+    (λ c. let e = c .before .before .before in let m = within-made (e .before .before .step-answer .ensures) (e .enum-told .given .1) in omega (arith, m .0))
+    (λ c. let e = c .before .before .before in let m = within-made (e .before .before .step-answer .ensures) (e .enum-told .given .1) in omega (arith, m .0))
+    (λ c. let e = c .before .before .before in
+    let b = e .before .before in
     let f = b .before .before .before in
     let i = f .before .before .before .before .loop .inv in
     let h = release-planned _ (i .0 .0 .formed) (f .before .before .if1 .taken) _ (f .first-holder .ensures) _ (b .before .before .if2 .left) in
-    rw (c .before .carry-out .ensures)
-    (since-next Quiet i (progress-made (i .0 .0, h (b .before .plan-release .ensures)) (b .step-answer .ensures) (c .before .before .enum-told .given .1))
+    rw (c .before .told-next .ensures, c .before .before .carry-out .ensures)
+    (since-next Quiet i (progress-made (i .0 .0, h (b .before .plan-release .ensures)) (b .step-answer .ensures) (e .enum-told .given .1))
     (i .0 .0 .goes)))
     (search needs) (search needs)
     (λ c. let b = c .before .before .before in

@@ -5,7 +5,8 @@ use Rattle.planning.proofs.plan.plan_effect.Tie as tie
 returns : tie.Need-returns
 returns c s l =
     let a = c .before .before .before .args in
-    plans-effect (a .k) (a .u) (a .e) (a .i) s (c .before .before .if1 .taken) (omega (arith, l, c .if2 .taken, c .before .sent-count .ensures .1))
+    plans-effect (a .k) (a .u) (a .e) (a .handling) (a .i) s (c .before .before .if1 .taken)
+    (omega (arith, l, c .if2 .taken, c .before .sent-count .ensures .1))
 
 returns-2 : tie.Need-returns-2
 returns-2 c s l =

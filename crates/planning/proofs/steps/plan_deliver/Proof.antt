@@ -4,22 +4,31 @@ use Rattle.planning.proofs.steps.plan_deliver.Tie as tie
 
 deliver-requires : tie.Need-deliver-requires
 deliver-requires c κs =
-    let s = c .before .before .before .before in
+    let v = c .before in
+    let s = v .before .before .before .before in
     let w = s .args .s .wire in
     let n : s .args .i < length (packets w) = omega (arith, length-packets w (s .pre .0 .wire), s .pre .1) in
-    (rw (c .site-of .ensures) (s .pre .0 .agents _), rw (c .before .before .before .packet-at .ensures) (s .pre .0 .carried (s .args .i) n))
+    (rw (v .site-of .ensures) (s .pre .0 .agents _), rw (v .before .before .before .packet-at .ensures) (s .pre .0 .carried (s .args .i) n))
 
 returns : tie.Need-returns
 unfolding deliverStep takes
 returns c =
     let b = c .before .before in
-    let d = b .before .before in
+    let v = b .before .before in
+    let d = v .before in
     let s = d .before .before .before in
     let w = s .args .s .wire in
     let e = sized-less (packets w) (s .args .i) (w .len) (length-packets w (s .pre .0 .wire)) (s .pre .1) in
-    rw (b .deliver .ensures, b .before .site-of .ensures, d .client-named .ensures, d .before .machine-at .ensures, d .before .before .packet-at .ensures)
+    rw (
+      b .deliver .ensures,
+      b .before .handled-at .ensures,
+      v .site-of .ensures,
+      d .client-named .ensures,
+      d .before .machine-at .ensures,
+      d .before .before .packet-at .ensures,
+    )
     at (c .plan-effect .ensures (s .args .s) e)
 
 pub plan-deliver-spec : {M : Type 1} → statement M
-plan-deliver-spec = tie.close (tie.spec (λ c κs. search needs) (search needs) (search needs) (search needs) deliver-requires (search needs) (search needs)
-    returns)
+plan-deliver-spec = tie.close (tie.spec (λ c κs. search needs) (search needs) (search needs) (search needs) (λ c κs. search needs) deliver-requires
+    (search needs) (λ c κs. let s = c .before .before .before .before .before .before .before in omega (arith, s .pre .0 .wire .short)) returns)

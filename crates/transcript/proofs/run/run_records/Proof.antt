@@ -15,10 +15,10 @@ use Rattle.transcript.proofs.run.run_records.Statement.{statement}
 use Rattle.transcript.proofs.run.run_records.Tie as tie
 
 abbrev Inv-loop : tie.InvT-loop
-Inv-loop bytes out₀ start y₀ at₀ n₀ k₀ out y at n k = Progress bytes y₀ (filled out₀ start) at n y (filled out k) × (length out ≡ length out₀)
+Inv-loop bytes out₀ start y₀ at₀ n₀ h₀ k₀ out y at n h k = Progress bytes y₀ (filled out₀ start) at n h y (filled out k) × (length out ≡ length out₀)
 
 abbrev μ-loop : tie.MeasureT-loop
-μ-loop bytes out₀ start y₀ at₀ n₀ k₀ out y at n k = length bytes - at
+μ-loop bytes out₀ start y₀ at₀ n₀ h₀ k₀ out y at n h k = length bytes - at
 
 loop-holds : tie.Need-loop-holds Inv-loop μ-loop
 loop-holds c = (progress-start _ _ _ (c .before .before .pre .0), search needs)
@@ -30,10 +30,10 @@ plan-call-requires c κs =
 
 carry-out-requires : tie.Need-carry-out-requires Inv-loop μ-loop
 carry-out-requires c κs =
-    let t = c .before .before .before .before .before in
+    let t = c .before .before .before .before .before .before in
     let s = t .before .before in
     let f = progress-lock (s .before .before .before .before .before .loop .inv .0) (s .lock-of .result) _ (omega (arith, t .if1 .taken)) in
-    (ready _ f .wire, c .before .before .plan-call .ensures .fits (c .enum-told .given .1))
+    (ready _ f .wire, c .before .before .before .plan-call .ensures .fits (c .enum-told .given .1))
 
 add-n : tie.Need-add-n Inv-loop μ-loop
 add-n c =
@@ -54,9 +54,11 @@ loop-again c =
     let q = j .before .before .lock-of .ensures in
     let f = l .inv .0 .formed in (
       progress-on (l .inv .0) _ _ (j .if1 .a) (j .if1 .w) e
-          (⊎-elim (λ w. rw (w .7, w .8, w .9, w .6 .ensures) (made-accepted _ _ _ _ (f, (omega (arith, w .0 .taken), q)) (w .3 .ensures) (w .5 .given .1)))
-          (λ v. ⊎-elim (λ w. rw (w .6, w .7, w .8) (made-refused _ _ _ _ (f, (omega (arith, w .0 .taken), q)) (w .3 .ensures) _ (w .5 .given .1)))
-          (λ w. rw (w .1, w .2, w .3) (made-range _ _ _ f q (omega (arith, w .0 .left)))) v) (j .if1 .came))
+          (⊎-elim (λ w. rw (w .8, w .9, w .10, w .11, w .7 .ensures)
+          (made-accepted _ _ _ _ _ (f, (omega (arith, w .0 .taken), q)) (w .3 .ensures) (w .6 .given .1) (w .4 .ensures)))
+          (λ v. ⊎-elim (λ w. rw (w .7, w .8, w .9, w .10)
+          (made-refused _ _ _ _ _ (f, (omega (arith, w .0 .taken), q)) (w .3 .ensures) _ (w .6 .given .1) (w .4 .ensures)))
+          (λ w. rw (w .1, w .2, w .3, w .4) (made-range _ _ _ _ f q (omega (arith, w .0 .left)))) v) (j .if1 .came))
           (rw (← c .before .before .before .kind-of .ensures) (c .before .before .put-line .ensures)),
       search needs,
     )
@@ -87,7 +89,7 @@ returns-2 c =
 
 pub run-records-spec : {M : Type 1} → statement M
 run-records-spec = tie.close (tie.spec Inv-loop μ-loop loop-holds (λ c κs. search needs) (λ c. search needs) (λ c κs. search needs) (λ c. search needs)
-    (λ c. search needs) (λ c. search needs) (λ c. search needs) plan-call-requires (λ c. search needs) carry-out-requires (λ c. search needs)
-    (λ c. search needs) (λ c. search needs) add-n (λ c κs. search needs) (λ c κs. search needs) loop-less loop-again (λ c. search needs) add-put-refused
-    (λ c κs. search needs) add-ended (λ c κs. search needs) (λ c. search needs) returns (λ c. search needs) (λ c κs. search needs) (λ c. search needs)
-    returns-2)
+    (λ c. search needs) (λ c. search needs) (λ c. search needs) plan-call-requires (λ c. search needs) (λ c. search needs) carry-out-requires
+    (λ c. search needs) (λ c. search needs) (λ c. search needs) add-n (λ c κs. search needs) (λ c κs. search needs) loop-less loop-again (λ c. search needs)
+    add-put-refused (λ c κs. search needs) add-ended (λ c κs. search needs) (λ c. search needs) returns (λ c. search needs) (λ c κs. search needs)
+    (λ c. search needs) returns-2)
