@@ -44,3 +44,5 @@ pub mod ReasonWeights
 pub mod Reasons
 -- ---- first come, first served
 pub mod FirstCome
+-- ---- why a request came back
+pub mod Handlings

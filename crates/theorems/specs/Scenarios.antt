@@ -1,5 +1,6 @@
--- The scenarios of document 01 that are marked to be proved (D1 to D10), D12 as request 3 of document 02 has it, and one for each of the tempting faults: each
--- a start state, calls on lock 0, and the numbers of the answers and the whole cluster that follow. One list, by name, and one theorem, by computation.
+-- The scenarios of document 01 that are marked to be proved (D1 to D10), D12 as request 3 of document 02 has it, one for each of the tempting faults, and the
+-- handlings of request 4: each a start state, calls on lock 0, and the numbers of the answers and the whole cluster that follow, or what is told. One list, by
+-- name, and one theorem, by computation.
 use mathlib.Core.Path.{_≡_, refl}
 use mathlib.Core.Bool.{Bool, true, false}
 use mathlib.Core.List.{List, [], _∷_, _++_, map}
@@ -8,6 +9,7 @@ use lib.ListN.{set, replicate}
 use Rattle.model.specs.Lists.{padded, removed}
 use Rattle.theorems.specs.Names.{LockId, MachineId, ClientId, Mode, Exclusive, Shared, Owned, Decider, Waiter, Agent, AgentSlot, ToDecider, ToMachine}
 use Rattle.theorems.specs.Names.{Message, Free, Acquire, Grant, Release, Packet, Status, Idle, Waiting, Holding, ClientState, LockState, Cluster, Call}
+use Rattle.theorems.specs.Names.{Handling, None, NoAgent, NotHolder, Taken, handlingsOf}
 use Rattle.theorems.specs.Names.{AcquireCall, ReleaseCall, DeliverCall, locks, machines, clients, carrying, resent, mayJoin, mayShare, number}
 use Rattle.model.specs.States.{queueOf, waiters, noHolders, newAgent, someAgent, noAgent, idle, plain, blankPacket, wireOf, packets, freshLock, statusOf}
 use Rattle.model.specs.WellFormed.{shaped, isBlankWaiter, distinct, queueFormed, agentFormed, isBlankAgent, slotFormed, messageFormed, packetFormed}
@@ -16,9 +18,10 @@ use Rattle.model.specs.Changes.{finish}
 use Rattle.model.specs.Asking.{clientAsks, clientAcquires, handOver, staysIf, clientReleases}
 use Rattle.model.specs.AtDecider.{toOwner, decidesAcquire, decidesFree, decidesGrant, decides, atDecider}
 use Rattle.model.specs.AtMachine.{admitted, staying, joined, installs, grantArrives, rejectedGrantArrives, marked, unmarked, acquireArrives, releaseArrives}
-use Rattle.model.specs.AtMachine.{freeArrives, arrives, atMachine}
+use Rattle.model.specs.AtMachine.{freeArrives, arrives, atMachine, handles}
 use Rattle.model.specs.Refusals.{first}
-use Rattle.model.specs.Calls.{delivers, acquireStep, releaseStep, takes, deliverStep, settled, unless, acquire, release, deliver, perform, run, answersOf}
+use Rattle.model.specs.Calls.{delivers, handledAt, acquireStep, releaseStep, takes, deliverStep, settled, unless, acquire, release, deliver, perform, run}
+use Rattle.model.specs.Calls.{answersOf}
 use Rattle.model.specs.Drain.{releaseFirst, nextOf, drainage, drainEnded, drainUnless, drain}
 use Rattle.model.specs.Trace.{sees, watch, grantsIn}
 
@@ -91,11 +94,14 @@ pub data Scenario : Type 0 where
   drained : LockState → ℕ → ℕ → LockState → Scenario
   -- from this state of lock 0: calls, and how many grants they show to each of these clients
   granted : LockState → List Call → List ℕ → List ℕ → Scenario
+  -- from this state of lock 0: calls, and the handlings that they tell
+  told : LockState → List Call → List Handling → Scenario
 
 abbrev pub Holds : Scenario → Type 0
 Holds (from s cs ns t) = (map number (answersOf cs (with0 s)) ≡ ns) × (run cs (with0 s) ≡ with0 t)
 Holds (drained s n steps t) =
     (number (drain (with0 s) (on 0) .answer) ≡ n) × (drain (with0 s) (on 0) .count ≡ steps) × (drain (with0 s) (on 0) .cluster ≡ with0 t)
+Holds (told s cs hs) = handlingsOf cs (with0 s) ≡ hs
 Holds (granted s cs who ns) = map (λ (c : ℕ). grantsIn (on 0) (client c) cs (with0 s) (statusOf s (client c))) who ≡ ns
 
 -- ---- the states that the scenarios reach
@@ -233,6 +239,7 @@ pub data Name : Type 0 where
   D1 D1-arrived D1-drained D2 D3 D3-rejected D4 D5 D6 D7 D8-queued D8 D9 D9-agent D10 : Name
   D12-queued D12 D12-second D12-third D12-granted : Name
   marked-returns granted-locally unmarked-joins waiter-returns : Name
+  D3-told D5-told D6-told D8-told : Name
 
 abbrev pub scenarios : Name → Scenario
 scenarios D1 = from freshLock (acquires0 0 0 3 ∷ delivers0 0 ∷ []) (0 ∷ 0 ∷ []) d1
@@ -270,10 +277,15 @@ scenarios marked-returns = from d3 (delivers0 1 ∷ delivers0 2 ∷ []) (0 ∷ 0
 scenarios granted-locally = from d1-held (acquires0 0 1 3 ∷ []) (0 ∷ []) f-local
 scenarios unmarked-joins = from f-unmarked (delivers0 0 ∷ []) (0 ∷ []) f-granted
 scenarios waiter-returns = from f-rejected (delivers0 0 ∷ []) (0 ∷ []) f-requeued
+-- what a machine makes of a marked ACQUIRE without an agent and with one, of a RELEASE at an agent that does not list its client, of an unmarked ACQUIRE
+scenarios D3-told = told d3 (delivers0 1 ∷ delivers0 2 ∷ []) (NoAgent ∷ None ∷ [])
+scenarios D5-told = told d4 (delivers0 1 ∷ delivers0 0 ∷ []) (Taken ∷ None ∷ [])
+scenarios D6-told = told d2 (delivers0 0 ∷ releases0 1 0 ∷ delivers0 1 ∷ delivers0 1 ∷ []) (None ∷ None ∷ None ∷ NotHolder ∷ [])
+scenarios D8-told = told d1-held (acquires0 1 0 2 ∷ delivers0 0 ∷ delivers0 0 ∷ []) (None ∷ None ∷ Taken ∷ [])
 
 pub scenarios-hold : (n : Name) → Holds (scenarios n)
 unfolding run perform acquire release deliver unless settled first acquireStep releaseStep deliverStep takes finish delivers
-    drain drainUnless drainEnded drainage nextOf releaseFirst
+    handledAt handles drain drainUnless drainEnded drainage nextOf releaseFirst
     wellFormed lockFormed wireFormed packetFormed messageFormed slotFormed agentFormed isBlankAgent isBlankPacket isBlankWaiter queueFormed distinct shaped
     atDecider decides decidesAcquire decidesFree decidesGrant toOwner atMachine arrives acquireArrives releaseArrives freeArrives marked unmarked
     grantArrives rejectedGrantArrives mayShare mayJoin installs admitted staying joined clientAcquires clientAsks clientReleases staysIf handOver
@@ -302,3 +314,7 @@ scenarios-hold marked-returns = (refl, refl)
 scenarios-hold granted-locally = (refl, refl)
 scenarios-hold unmarked-joins = (refl, refl)
 scenarios-hold waiter-returns = (refl, refl)
+scenarios-hold D3-told = refl
+scenarios-hold D5-told = refl
+scenarios-hold D6-told = refl
+scenarios-hold D8-told = refl

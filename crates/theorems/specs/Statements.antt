@@ -1,5 +1,5 @@
--- What is proved, in Theorems, Drains, Listings, Counts, Reasons and FirstCome: of the numbers of answers, and of every list of calls on a fresh cluster. Past
--- the last, a lock reads as fresh and a client as idle.
+-- What is proved, in Theorems, Drains, Listings, Counts, Reasons, FirstCome and Handlings: of the numbers of answers, and of every list of calls on a fresh
+-- cluster. Past the last, a lock reads as fresh and a client as idle.
 use Rattle.model.specs.Drain.{allowance, Quiescent, drainCalls, drain}
 use Rattle.model.specs.Trace.{isAccepted, grantsIn}
 use Rattle.model.specs.Refusals.{first}
@@ -12,7 +12,8 @@ use Rattle.theorems.specs.Names.{current, packetAt, run, answersOf, perf
 use Rattle.theorems.specs.Names.{after, _++_, map, Packet, MachineId, Unowned, Owned, LockState, Bool, false, not, _||_, count, agentOn, ownedShared}
 use Rattle.theorems.specs.Names.{names, isFree, agentsIn, marksIn, uncounted, TaskId, Reason, ReasonAnswer, Because, machines, tasks, clientOf}
 use Rattle.theorems.specs.Names.{isTrue, reasonIn, reason, reasonNumber, reasonValues, Waiter, Agent, ToMachine, Grant, _&&_, isShared, waiters, carrying}
-use Rattle.theorems.specs.Names.{removed, grantOf, deliver, None, handlingsOf, lastTold}
+use Rattle.theorems.specs.Names.{removed, grantOf, acquire, release, deliver, ToDecider, Message, Free, Acquire, Release, Handling, None, NoAgent}
+use Rattle.theorems.specs.Names.{NotHolder, Taken, sentBack, lists, handlingsOf, lastTold, wireOf}
 use lib.ListN.{take}
 
 -- Different answers have different numbers, and 0 is the number of the accepted alone.
@@ -196,3 +197,55 @@ abbrev pub FirstServed : Cluster → LockId → ℕ → Type 0
 FirstServed x l i =
     (k : MachineId) (c : ClientId) (m : Mode) (a : Agent) → packetAt (lockIn x l) i ≡ carrying (Grant c m) (ToMachine k) a
     → deliver x l i .answer ≡ Accepted → FirstCome (lockIn x l) (lockIn (deliver x l i .cluster) l) i k m a
+
+-- Request 4 of document 02: why a request came back. The packet with the index i was delivered to machine k; s and t are the lock's states before and after.
+abbrev pub isRequest : Message → Bool
+isRequest (Acquire c m g) = true
+isRequest (Release c) = true
+isRequest (Grant c m) = false
+isRequest Free = false
+
+-- It went back: the same packet, now for the decider, is the last on the wire, and nothing else has changed.
+abbrev pub WentBack : LockState → LockState → ℕ → Type 0
+WentBack s t i =
+    t ≡ record { decider = s .decider; agents = s .agents; clients = s .clients; wire = wireOf (removed (packets (s .wire)) i ++ sentBack (packetAt s i) ∷ []) }
+
+-- It did not: no request was sent.
+pub record Stayed (s t : LockState) (i : ℕ) : Type 0 where
+  pub sent : List Packet
+  pub wire : packets (t .wire) ≡ removed (packets (s .wire)) i ++ sent
+  pub answers : all (λ (p : Packet). not (isRequest (p .message))) sent ≡ true
+
+-- Its message, and the handling that is told: each has a cause of its own.
+pub data Handled (s t : LockState) (i : ℕ) (k : MachineId) : Message → Handling → Type 0 where
+  no-agent : {m : Message} → isRequest m ≡ true → agentOn s k .present ≡ false → WentBack s t i → Handled s t i k m NoAgent
+  not-holder : {c : ClientId} → agentOn s k .present ≡ true → lists (agentOn s k) c ≡ false → WentBack s t i → Handled s t i k (Release c) NotHolder
+  acquire-taken : {c : ClientId} {m : Mode} {g : Bool} → agentOn s k .present ≡ true → Stayed s t i → Handled s t i k (Acquire c m g) Taken
+  release-taken : {c : ClientId} → lists (agentOn s k) c ≡ true → Stayed s t i → Handled s t i k (Release c) Taken
+  no-request : {m : Message} → isRequest m ≡ false → Handled s t i k m None
+
+-- The last of a list of handlings that is one, or none.
+abbrev pub isNone : Handling → Bool
+isNone None = true
+isNone NoAgent = false
+isNone NotHolder = false
+isNone Taken = false
+
+pub data Last : List Handling → Handling → Type 0 where
+  none-told : {hs : List Handling} → all isNone hs ≡ true → Last hs None
+  last-told : {hs : List Handling} (before : List Handling) {h : Handling} (behind : List Handling) → hs ≡ before ++ h ∷ behind → isNone h ≡ false
+      → all isNone behind ≡ true → Last hs h
+
+-- On any cluster, made by hand or not: what is told by a delivery to a machine, if it is accepted; and nothing by any other call, or a refused one. A drain
+-- tells the last handling of its calls, and nothing where it is refused.
+pub record TellsWhy (x : Cluster) : Type 0 where
+  pub at-machine : (l : LockId) (i : ℕ) (k : MachineId) → packetAt (lockIn x l) i .to ≡ ToMachine k → deliver x l i .answer ≡ Accepted
+      → Handled (lockIn x l) (lockIn (deliver x l i .cluster) l) i k (packetAt (lockIn x l) i .message) (deliver x l i .handling)
+  pub at-decider : (l : LockId) (i : ℕ) → packetAt (lockIn x l) i .to ≡ ToDecider → deliver x l i .handling ≡ None
+  pub acquires : (l : LockId) (k : MachineId) (t : TaskId) (m : ℕ) → acquire x l k t m .handling ≡ None
+  pub releases : (l : LockId) (k : MachineId) (t : TaskId) → release x l k t .handling ≡ None
+  pub refused : (c : Call) (r : Refusal) → perform c x .answer ≡ Refused r → perform c x .handling ≡ None
+  pub drains : (l : LockId) → drain x l .answer ≡ Accepted → Last (handlingsOf (drainCalls l x) x) (drain x l .handling)
+  pub drain-refused : (l : LockId) (r : Refusal) → drain x l .answer ≡ Refused r → drain x l .handling ≡ None
+  pub transcripts : (bytes : List ℕ) → first (replayTests x bytes) ≡ Accepted → Last (handlingsOf (callsOf bytes) x) (replay x bytes .handling)
+  pub untested : (bytes : List ℕ) (r : Refusal) → first (replayTests x bytes) ≡ Refused r → replay x bytes .handling ≡ None
