@@ -237,7 +237,7 @@ pub data Last : List Handling → Handling → Type 0 where
       → all isNone behind ≡ true → Last hs h
 
 -- On any cluster, made by hand or not: what is told by a delivery to a machine, if it is accepted; and nothing by any other call, or a refused one. A drain
--- tells the last handling of its calls, and nothing where it is refused.
+-- tells the last handling of its calls, and nothing where it is refused; a transcript the last of its records', and nothing where the two tests refuse it.
 pub record TellsWhy (x : Cluster) : Type 0 where
   pub at-machine : (l : LockId) (i : ℕ) (k : MachineId) → packetAt (lockIn x l) i .to ≡ ToMachine k → deliver x l i .answer ≡ Accepted
       → Handled (lockIn x l) (lockIn (deliver x l i .cluster) l) i k (packetAt (lockIn x l) i .message) (deliver x l i .handling)
