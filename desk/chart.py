@@ -1,7 +1,7 @@
 """What a picture of one lock shows, by rows: a row for each step, and behind them one for each packet still on the wire at the end."""
 from dataclasses import dataclass, field
 
-from desk.lines import CLIENTS, MACHINES, status_of
+from desk.lines import CLIENTS, MACHINES, fresh, status_of
 from desk.rules import sent_back
 from desk.step import steps
 
@@ -35,6 +35,10 @@ class Chart:
     left: list = field(default_factory=list)  # the flights still on the wire at the end, by index
     clients: list = field(default_factory=lambda: [[] for _ in range(CLIENTS)])  # the spans of each client
     agents: list = field(default_factory=lambda: [[] for _ in range(MACHINES)])  # the spans of the agent on each machine
+    writer: list = field(default_factory=list)  # the spans in which the decider knows that a writer waits
+
+    def prefers_writers(self):
+        return any(step.prefers_writers for step in self.steps)
 
     def rows(self):
         return len(self.steps) + len(self.left)
@@ -50,11 +54,12 @@ def change(spans, old, new, row, idle):
         spans.append(Span(new, row))
 
 
-def add_spans(chart, step, row):
-    for spans, old, new in zip(chart.clients, step.before["clients"], step.after["clients"]):
+def add_spans(chart, before, after, row):
+    for spans, old, new in zip(chart.clients, before["clients"], after["clients"]):
         change(spans, status_of(old), status_of(new), row, {"status": "idle", "mode": None})
-    for spans, old, new in zip(chart.agents, step.before["agents"], step.after["agents"]):
+    for spans, old, new in zip(chart.agents, before["agents"], after["agents"]):
         change(spans, old is not None, new is not None, row, False)
+    change(chart.writer, before["decider"]["writer"], after["decider"]["writer"], row, False)
 
 
 def add_flights(chart, step, row):
@@ -76,9 +81,11 @@ def chart_of(lock, lines):
             continue
         step.need(len(step.before["wire"]) == len(chart.left))
         row = len(chart.steps)
+        if row == 0:
+            add_spans(chart, fresh(), step.before, row)  # what a state made by hand begins with
         chart.steps.append(step)
         if not step.line["answer"]:
-            add_spans(chart, step, row)
+            add_spans(chart, step.before, step.after, row)
             add_flights(chart, step, row)
     for number, flight in enumerate(chart.left):
         flight.end = len(chart.steps) + number

@@ -20,20 +20,31 @@ class Options(argparse.ArgumentParser):
     def __init__(self, name, about):
         super().__init__(prog=name, description=about, allow_abbrev=False)
         self.add_argument("--lines", action="store_true", help="FILE has the lines that inspect writes, not a transcript")
+        self.add_argument("--preference", metavar="N", type=digits, help="0, as without it: readers are preferred; 1: writers are")
         self.add_argument("file", metavar="FILE", nargs="?", help="a transcript; without it, standard input")
 
     def error(self, message):
         raise Refused(f"{message} (see {self.prog} --help)")
 
 
+def digits(text):
+    """A decimal number as it was written: the program says what it makes of it."""
+    if text.isascii() and text.isdigit():
+        return text
+    raise argparse.ArgumentTypeError(f"takes a decimal number, not '{text}'")
+
+
 def given(options):
     """The lines that the command was given, or that inspect writes of the transcript that it was given."""
+    if options.lines and options.preference is not None:
+        raise Refused("--preference goes with a transcript, not with --lines: the lines say it themselves")
+    preference = [] if options.preference is None else ["--preference", options.preference]
     try:
         named = options.file is not None
         with open(options.file if named else 0, "rb", closefd=named) as source:
             if options.lines:
                 return source.read().splitlines()
-            inspected = subprocess.run([INSPECT], stdin=source, stdout=subprocess.PIPE)
+            inspected = subprocess.run([INSPECT, *preference], stdin=source, stdout=subprocess.PIPE)
     except OSError as error:
         raise Refused(f"cannot read {error.filename or 'standard input'}: {error.strerror}") from None
     if inspected.returncode:

@@ -1,6 +1,6 @@
 """explain: what each step of a transcript did, in words, from the lines that inspect writes."""
 from desk.command import Options, run
-from desk.lines import agents_of, status_of
+from desk.lines import WRITERS, agents_of, status_of
 from desk.refusals import reason
 from desk.rules import said
 from desk.step import steps
@@ -93,6 +93,8 @@ def table(counts, state):
 
 def ended(end):
     """How the transcript ended, and what became of the last request that reached a machine, if one did."""
+    if end["end"] == "bad preference":
+        return ["The preference is neither 0, for readers, nor 1, for writers: answer 16. No record was run."]
     if end["end"] == "too long":
         return ["The transcript has more than 65,535 bytes: answer 13. No record of it was run."]
     told = [f"The last request that reached a machine {LAST[end['handling']]}."] if end["handling"] else []
@@ -115,9 +117,15 @@ def told_by(drain):
     return f"; the last request that reaches a machine {LATER[drain['handling']]}" if drain["handling"] else ""
 
 
+def preference(line):
+    """Whom the cluster prefers, in words for writers alone."""
+    return ["Writers are preferred: the cluster's preference is 1."] if line["preference"] == WRITERS else []
+
+
 def text(options, lines):
     out = []
     for step in steps(lines):
+        out = out or preference(step if isinstance(step, dict) else step.line)
         if isinstance(step, dict):
             out += [*ended(step), *drained(step)]
             continue

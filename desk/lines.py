@@ -5,7 +5,8 @@ from desk.reasons import ON_WIRE, reasons
 
 LOCKS, MACHINES, CLIENTS, WIRE = 8, 4, 16, 33
 ANSWERS = {"acquire": (0, 1, 2, 3, 4, 5, 6, 9, 10, 11), "release": (0, 1, 2, 3, 7, 9, 10, 11), "deliver": (0, 1, 8, 9, 10, 11)}
-ENDS = {"end": 0, "bad record": 12, "too long": 13}
+ENDS = {"end": 0, "bad record": 12, "too long": 13, "bad preference": 16}
+READERS, WRITERS, MALFORMED = 0, 1, 11  # the preferences, and the answer of a cluster made by hand that has another
 HANDLINGS = "no agent", "not a holder", "taken"
 
 
@@ -41,9 +42,9 @@ HANDLING = or_null(one_of(*HANDLINGS))
 
 
 def record(kind, *fields):
-    """A record's line: its number and kind, its bytes, the answer, the handling, the state and what is counted in it."""
+    """A record's line: its number and kind, its bytes, the answer, the handling, the preference, the state and what is counted in it."""
     return {"n": number(65535), "kind": one_of(kind), **{field: BYTE for field in fields}, "answer": one_of(*ANSWERS[kind]), "handling": HANDLING,
-            "state": or_null(thing("state")), "counts": or_null(thing("counts"))}
+            "preference": BYTE, "state": or_null(thing("state")), "counts": or_null(thing("counts"))}
 
 
 FORMS = {
@@ -53,7 +54,7 @@ FORMS = {
     "counts": {"agents": number(MACHINES + WIRE), "marked": number(WIRE)},
     "state": {"decider": thing("decider"), "agents": rows(or_null(thing("agent")), MACHINES),
               "clients": rows(thing("client"), CLIENTS), "wire": rows(thing("packet"))},
-    "decider": {"mode": one_of(0, 2, 3), "machine": or_null(number(MACHINES - 1)), "incarnation": BYTE},
+    "decider": {"mode": one_of(0, 2, 3), "machine": or_null(number(MACHINES - 1)), "incarnation": BYTE, "writer": FLAG},
     "agent": {"mode": MODE, "holders": rows(CLIENT), "queue": rows(thing("waiter")), "incarnation": BYTE},
     "waiter": {"client": CLIENT, "mode": MODE},
     "client": {"status": one_of("idle", "waiting", "holding"), "mode": or_null(MODE), "reason": or_null(thing("reason"))},
@@ -61,7 +62,8 @@ FORMS = {
                "ahead": or_null(number(CLIENTS - 1))},
     "packet": {"kind": one_of("ACQUIRE", "GRANT", "RELEASE", "FREE"), "to": or_null(number(MACHINES - 1)), "client": or_null(CLIENT),
                "mode": or_null(MODE), "granted": FLAG, "rejected": FLAG, "agent": or_null(thing("agent"))},
-    "end": {"end": one_of(*ENDS), "answer": one_of(*ENDS.values()), "records": number(65535), "handling": HANDLING, "drains": rows(thing("drain"), LOCKS)},
+    "end": {"end": one_of(*ENDS), "answer": one_of(*ENDS.values()), "records": number(65535), "handling": HANDLING, "preference": BYTE,
+            "drains": rows(thing("drain"), LOCKS)},
     "drain": {"lock": number(LOCKS - 1), "answer": one_of(0, 9, 10, 11, 14), "count": number(16384), "handling": HANDLING},
 }
 
@@ -107,10 +109,24 @@ def shown(state):
     return {"state": state, "counts": counts}
 
 
+def prefers(preference, state):
+    """Whether a well-formed cluster can have this preference, and this state of a lock: only where writers are preferred the decider's bit is set."""
+    return preference == WRITERS or preference == READERS and not (state and state["decider"]["writer"])
+
+
 def whole_record(line):
     """There is a state exactly where there is such a lock, and what is counted is what it has. Only an accepted delivery has a handling."""
     return ((line["state"] is None) == (line["answer"] == 1) and line["counts"] == shown(line["state"])["counts"]
-            and (line["handling"] is None or line["kind"] == "deliver" and line["answer"] == 0))
+            and (line["handling"] is None or line["kind"] == "deliver" and line["answer"] == 0)
+            and (line["answer"] == MALFORMED or prefers(line["preference"], line["state"])))
+
+
+def whole_end(end):
+    """A drain of each lock; another preference than the two refuses them all, and beside a bad one the cluster is fresh, for readers."""
+    drains = end["drains"]
+    return (end["answer"] == ENDS[end["end"]] and [drain["lock"] for drain in drains] == list(range(LOCKS))
+            and (prefers(end["preference"], None) or all(drain["answer"] == MALFORMED for drain in drains))
+            and (end["end"] != "bad preference" or end["preference"] == READERS and not any(drain["answer"] or drain["count"] for drain in drains)))
 
 
 WHOLE = {
@@ -118,14 +134,14 @@ WHOLE = {
     "state": whole_state,
     "decider": lambda decider: (decider["mode"] == 0) == (decider["machine"] is None),
     "agent": lambda agent: agent["holders"] == sorted(set(agent["holders"])),
-    "end": lambda end: end["answer"] == ENDS[end["end"]] and [drain["lock"] for drain in end["drains"]] == list(range(LOCKS)),
+    "end": whole_end,
     "drain": lambda drain: drain["handling"] is None or drain["count"] > 0,
 }
 
 
 def fresh():
     """The state of a lock at the beginning."""
-    return {"decider": {"mode": 0, "machine": None, "incarnation": 0}, "agents": [None] * MACHINES,
+    return {"decider": {"mode": 0, "machine": None, "incarnation": 0, "writer": False}, "agents": [None] * MACHINES,
             "clients": [{"status": "idle", "mode": None, "reason": None} for _ in range(CLIENTS)], "wire": []}
 
 
@@ -148,20 +164,28 @@ def parsed(text):
 
 
 def in_order(line, number):
-    """Records are numbered from 1, and the end says how many there are, the number of the bad one, or 0."""
+    """Records are numbered from 1, and the end says how many there are or the number of the bad one; with 0 it stands alone where no record was run."""
     if "n" in line:
         return line["n"] == number
-    return line["records"] == {"end": number - 1, "bad record": number, "too long": 0}[line["end"]]
+    if line["end"] in ("too long", "bad preference"):
+        return line["records"] == 0 and number == 1
+    return line["records"] == (number - 1 if line["end"] == "end" else number)
+
+
+def goes_with(line, first, last):
+    """All lines have the preference of the first one, and the end has the last handling of the others."""
+    return line["preference"] == first["preference"] and ("n" in line or line["handling"] == last)
 
 
 def read(texts):
-    """Each line's object in order; the last line, and no other, is the end, and has the last handling of the others."""
-    line = last = None
+    """Each line's object in order; the last line, and no other, is the end."""
+    line = first = last = None
     for number, text in enumerate(texts, 1):
         if line and "end" in line:
             raise NotLines(f"line {number} stands behind the last line of inspect")
         line = parsed(text)
-        if line is None or not in_order(line, number) or "end" in line and line["handling"] != last:
+        first = first or line
+        if line is None or not in_order(line, number) or not goes_with(line, first, last):
             raise NotLines(f"line {number} is not one that inspect writes (docs/inspect.md)")
         last = line["handling"] or last
         yield line

@@ -8,7 +8,7 @@ from desk.words import MODES, client, count
 MOST = 60  # steps in a picture
 
 # colours of Okabe and Ito, which differ for every kind of colour vision
-BLACK, GREY, FAINT, ORANGE, GREEN, BLUE, VERMILION = "#222222", "#999999", "#EEEEEE", "#E69F00", "#009E73", "#0072B2", "#D55E00"
+BLACK, GREY, FAINT, ORANGE, GREEN, BLUE, VERMILION, PURPLE = "#222222", "#999999", "#EEEEEE", "#E69F00", "#009E73", "#0072B2", "#D55E00", "#CC79A7"
 # the look of an arrow: colour, width, dashes once delivered, dashes while on the wire
 LOOKS = {"plain": (BLACK, 1.2, "", "8 4"), "rejected": (VERMILION, 3, "", "8 4"), "back": (BLUE, 1.8, "2 3", "8 3 2 3")}
 COLOURS = {"waiting": ORANGE, "holding": GREEN}
@@ -85,7 +85,8 @@ class Picture:
 
     def heads(self):
         """The names of lanes and clients, and the lanes."""
-        yield tag("text", f"Lock {self.chart.lock}: {count(len(self.chart.steps), 'step')}", x=STEP, y=22, font_size=14, font_weight="bold")
+        whom = ", writers are preferred" if self.chart.prefers_writers() else ""
+        yield tag("text", f"Lock {self.chart.lock}: {count(len(self.chart.steps), 'step')}{whom}", x=STEP, y=22, font_size=14, font_weight="bold")
         for machine in (None, *range(MACHINES)):
             yield from head(machine)
             yield tag("line", x1=lane(machine), y1=TOP - 22, x2=lane(machine), y2=f"{self.bottom:g}", stroke=GREY)
@@ -101,7 +102,9 @@ class Picture:
             yield from label(STEP, self.y(len(self.chart.steps)) - ROW, ["Still on the wire at the end:"], font_style="italic")
 
     def spans(self):
-        """Where the agent is, and who waits and holds."""
+        """Where the agent is, where the decider knows of a writer, and who waits and holds."""
+        for span in self.chart.writer:
+            yield writer_bar(DECIDER, **self.height(span))
         for machine, spans in enumerate(self.chart.agents):
             for span in spans:
                 yield agent_bar(lane(machine), **self.height(span))
@@ -182,8 +185,12 @@ def span_bar(x, client, y, height):
     return tag("rect", x=f"{x - width / 2:g}", y=y, width=width, height=height, fill=fill, stroke=COLOURS[status])
 
 
-def agent_bar(x, y, height):
-    return tag("rect", x=x - 3, y=f"{y:g}", width=6, height=height, fill=GREY)
+def agent_bar(x, y, height, fill=GREY):
+    return tag("rect", x=x - 3, y=f"{y:g}", width=6, height=height, fill=fill)
+
+
+def writer_bar(x, y, height):
+    return agent_bar(x, y, height, PURPLE)
 
 
 def dot(x, y):
@@ -209,8 +216,8 @@ ARROWS = [("plain", True, "packet"), ("rejected", True, "rejected"), ("back", Tr
 SPANS = [("waiting", 2, "waits, exclusive"), ("waiting", 3, "waits, shared"), ("holding", 2, "holds, exclusive"), ("holding", 3, "holds, shared")]
 
 
-def legend(y):
-    """What arrows, spans and marks mean."""
+def legend(y, writers):
+    """What arrows, spans and marks mean; where writers are preferred, also the decider's bar."""
     places = range(STEP, WIDTH, 175)
     for x, (name, delivered, words) in zip(places, ARROWS):
         yield arrow(name, delivered, x, y, x + 36, y)
@@ -222,6 +229,9 @@ def legend(y):
     yield from label(places[4] + 44, y, ["acquires or releases"])
     yield from label(places[5] + 44, y, ["is refused"])
     yield from label(places[4] + 44, y + 24, ["the agent is here"])
+    if writers:
+        yield writer_bar(places[5] + 30, y + 14, 20)
+        yield from label(places[5] + 44, y + 24, ["a writer is known to wait"])
 
 
 def drawn(chart):
@@ -232,7 +242,8 @@ def drawn(chart):
            'font-family="Helvetica, Arial, sans-serif" font-size="10">')
     yield tag("title", f"Lock {chart.lock}, by steps")
     yield from ("<defs>", *definitions(), "</defs>", tag("rect", width=WIDTH, height=f"{height:g}", fill="white"))
-    yield from (*picture.rules(), *picture.heads(), *picture.spans(), *picture.arrows(), *picture.labels(), *legend(picture.bottom + 18))
+    yield from (*picture.rules(), *picture.heads(), *picture.spans(), *picture.arrows(), *picture.labels(),
+                *legend(picture.bottom + 18, chart.prefers_writers()))
     yield "</svg>"
 
 

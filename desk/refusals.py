@@ -1,5 +1,6 @@
 """Why a step was refused: a sentence for each answer of docs/protocol.md, from the record and the state that it met."""
-from desk.lines import CLIENTS, LOCKS, MACHINES, WIRE
+from desk.lines import CLIENTS, LOCKS, MACHINES, READERS, WIRE, WRITERS
+from desk.rules import joins
 from desk.words import MODES, client, count, packet, status
 
 
@@ -41,7 +42,7 @@ def no_packet(step):
 def no_place(step):
     """Which of the causes of answer 9 it is."""
     if step.line["kind"] != "deliver":
-        return "There is no place for what comes: " + queue_refuses(step, step.after["agents"][step.machine], step.client)
+        return "There is no place for what comes: " + queue_refuses(step, step.after["agents"][step.machine], step.client, step.line.get("mode"))
     step.need(step.line["index"] < len(step.after["wire"]))
     comes = step.after["wire"][step.line["index"]]
     begun = f"There is no place for what comes, {packet(comes)}: "
@@ -52,19 +53,31 @@ def no_place(step):
         return begun + f"machine {comes['to']} has an agent already."
     if there is not None and comes["granted"] and there["mode"] == 2:
         return begun + f"the agent on machine {comes['to']} is exclusive and takes no marked ACQUIRE."
-    return begun + queue_refuses(step, there or comes["agent"], comes["client"])
+    step.need(comes["rejected"] or comes["kind"] == "ACQUIRE" and not comes["granted"])
+    return begun + queue_refuses(step, there or comes["agent"], comes["client"], comes["mode"] if there else None)
 
 
-def queue_refuses(step, agent, number):
-    """Why a client cannot join an agent's queue, or go back to it."""
-    step.need(agent is not None and number is not None)
+def queue_refuses(step, agent, number, mode):
+    """Why a client that asks in a mode cannot join an agent's queue, or, without a mode here, go back to it."""
+    step.need(agent is not None and number is not None and not joins(step, agent, mode))
     if any(waiter["client"] == number for waiter in agent["queue"]):
         return f"{client(number)} stands in the agent's queue already."
+    step.need(len(agent["queue"]) >= CLIENTS)
     return f"the agent's queue has {count(len(agent['queue']), 'client')}, and {CLIENTS} is the most."
 
 
 def no_room(step):
     return f"The wire has no room for what is sent: it has {count(len(step.after['wire']), 'packet')}, and {WIRE} is the most."
+
+
+def malformed(step):
+    """Which bound is broken, where it is one of those on the preference."""
+    preference = step.line["preference"]
+    if preference not in (READERS, WRITERS):
+        return f"The cluster is malformed: its preference is {preference}, neither 0, for readers, nor 1, for writers."
+    if preference == READERS and step.after["decider"]["writer"]:
+        return "The cluster is malformed: the decider knows that a writer waits, though readers are preferred."
+    return "The cluster is malformed: it breaks a bound of docs/protocol.md."
 
 
 REASONS = {
@@ -78,7 +91,7 @@ REASONS = {
     8: no_packet,
     9: no_place,
     10: no_room,
-    11: lambda step: "The cluster is malformed: it breaks a bound of docs/protocol.md.",
+    11: malformed,
 }
 
 

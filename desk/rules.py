@@ -1,5 +1,6 @@
 """What each rule of docs/protocol.md did in a step: its sentences, from the packet, what was sent, and the states before and after."""
-from desk.words import EXCLUSIVE, MODES, client, clients, packet
+from desk.lines import fresh, status_of
+from desk.words import EXCLUSIVE, MODES, SHARED, client, clients, packet
 
 
 def at(step, number=0):
@@ -21,24 +22,61 @@ def sent_one(step, kind, to):
     return step.sent[0]
 
 
-def stands_in(agent, number):
-    return agent is not None and any(waiter["client"] == number for waiter in agent["queue"])
-
-
 def lists(agent, number):
     return agent is not None and number in agent["holders"]
+
+
+def preferred(step, agent):
+    """The first who asks exclusively in an agent's queue, to whom readers give way; None where nobody does, or readers are preferred."""
+    writers = [waiter["client"] for waiter in agent["queue"] if waiter["mode"] == EXCLUSIVE]
+    return writers[0] if writers and step.prefers_writers else None
+
+
+def both_shared(agent, mode):
+    return agent["mode"] == mode == SHARED
+
+
+def joins(step, agent, mode):
+    """Whether a request that is not marked joins the agent's holders; otherwise it is queued."""
+    return both_shared(agent, mode) and preferred(step, agent) is None
+
+
+def listed(step):
+    """The agent's holders, the client among them."""
+    return sorted({*agent_before(step)["holders"], step.client})
+
+
+def queued(step, mode, who):
+    """A request that does not join: where agent and request are both shared, a writer is why."""
+    agent = agent_before(step)
+    step.agent_is_as_it_was(queue=[*agent["queue"], {"client": step.client, "mode": mode}])
+    step.need(not step.sent)
+    goes = f"{who} goes to the end of the queue of the agent on machine {step.machine}."
+    if not both_shared(agent, mode):
+        return [goes.capitalize()]
+    return [f"Agent and request are shared, but a writer, {client(preferred(step, agent))}, stands in the queue: {goes}"]
 
 
 # At a client.
 
 def client_acquires(step):
-    if step.sent:
+    mode = step.line["mode"]
+    if agent_before(step) is None:
         asked = sent_one(step, "ACQUIRE", None)
+        becomes(step, "waiting")
         return [f"Machine {step.machine} has no agent: {packet(asked)}, goes to the decider, {at(step)}."]
-    if lists(agent_after(step), step.client):
-        return [f"Agent and request are shared: the agent on machine {step.machine} lists it, and it holds at once."]
-    step.need(stands_in(agent_after(step), step.client))
-    return [f"It goes to the end of the queue of the agent on machine {step.machine}."]
+    if not joins(step, agent_before(step), mode):
+        becomes(step, "waiting")
+        return queued(step, mode, "it")
+    becomes(step, "holding")
+    step.agent_is_as_it_was(holders=listed(step))
+    step.need(not step.sent)
+    return [f"Agent and request are shared: the agent on machine {step.machine} lists it, and it holds at once."]
+
+
+def becomes(step, status):
+    """What the client that acquires does from now on."""
+    step.need(status_of(step.after["clients"][step.client]) == {"status": status, "mode": step.line["mode"]})
 
 
 def client_releases(step):
@@ -71,20 +109,44 @@ def strikes_off(step):
 # At the decider.
 
 def acquire_at_decider(step):
-    old, new = step.before["decider"], step.after["decider"]
-    if old["mode"] == 0:
-        step.need(new["mode"] != 0)
-        granted = sent_one(step, "GRANT", new["machine"])
-        return [f"The lock was free: machine {new['machine']} is its owner now, {MODES[new['mode']]}, and gets a new agent.",
-                f"{packet(granted)}, goes to machine {new['machine']}, {at(step)}."]
-    if len(step.sent) == 2:
+    if step.before["decider"]["mode"] == 0:
+        return granted_first(step)
+    why = why_sent_on(step)
+    if why is None:
         return granted_at_decider(step)
-    why = "It is marked, so granted already" if step.packet["granted"] else "Lock and request are not both shared"
-    return sent_on(step, why + ": it")
+    knew, asks = step.before["decider"]["writer"], step.packet["mode"] == EXCLUSIVE and not step.packet["granted"]
+    notes = step.prefers_writers and asks and not knew
+    return [*sent_on(step, why + ": it", writer=knew or notes), *["The decider notes that a writer waits."] * notes]
+
+
+def granted_first(step):
+    """A request at a free lock."""
+    owner, mode = step.client // 4, step.packet["mode"]
+    becomes_owner(step)
+    granted = sent_one(step, "GRANT", owner)
+    return [f"The lock was free: machine {owner} is its owner now, {MODES[mode]}, and gets a new agent.",
+            f"{packet(granted)}, goes to machine {owner}, {at(step)}."]
+
+
+def becomes_owner(step, **but):
+    """The machine of the packet's client owns the lock now, and the decider counts anew."""
+    step.decider_is_as_it_was(mode=step.packet["mode"], machine=step.client // 4, incarnation=0, **but)
+
+
+def why_sent_on(step):
+    """Why an ACQUIRE of a lock that is not free is for the agent to decide; None where the decider grants it."""
+    decider, asked = step.before["decider"], step.packet
+    if asked["granted"]:
+        return "It is marked, so granted already"
+    if not decider["mode"] == asked["mode"] == SHARED:
+        return "Lock and request are not both shared"
+    return "Lock and request are shared, but the decider knows that a writer waits" if decider["writer"] else None
 
 
 def granted_at_decider(step):
     """A shared request at a shared lock."""
+    step.decider_is_as_it_was(incarnation=(step.before["decider"]["incarnation"] + 1) % 256)
+    step.need(len(step.sent) == 2)
     grant, marked = step.sent
     step.need(grant["kind"] == "GRANT" and marked["kind"] == "ACQUIRE" and marked["granted"])
     return [f"Lock and request are shared: granted on the spot, and the decider counts up to {step.after['decider']['incarnation']}.",
@@ -92,8 +154,8 @@ def granted_at_decider(step):
             f"the ACQUIRE, now marked, goes to machine {marked['to']}, the owner, {at(step, 1)}."]
 
 
-def sent_on(step, it):
-    step.decider_is_as_it_was()
+def sent_on(step, it, **but):
+    step.decider_is_as_it_was(**but)
     owner = step.after["decider"]["machine"]
     step.need(step.sent == [{**step.packet, "to": owner}])
     return [f"{it} is sent on to machine {owner}, the owner, {at(step)}."]
@@ -108,6 +170,12 @@ def counts(step):
     return step.packet["agent"]["incarnation"], step.before["decider"]["incarnation"]
 
 
+def is_current(step):
+    """Whether agent and decider have counted the same; otherwise the packet is rejected."""
+    agents, deciders = counts(step)
+    return agents == deciders
+
+
 def rejected(step):
     """A FREE or a GRANT with the agent, sent back."""
     step.decider_is_as_it_was()
@@ -119,10 +187,11 @@ def rejected(step):
 
 
 def free_at_decider(step):
-    if step.sent:
+    if not is_current(step):
         return rejected(step)
-    step.need(step.after["decider"]["mode"] == 0)
-    return [f"Agent and decider have both counted {counts(step)[0]}: the lock is free now."]
+    step.need(step.after["decider"] == fresh()["decider"] and not step.sent)
+    forgets = ["The decider forgets that a writer waits."] if step.before["decider"]["writer"] else []
+    return [f"Agent and decider have both counted {counts(step)[0]}: the lock is free now.", *forgets]
 
 
 def grant_at_decider(step):
@@ -130,12 +199,21 @@ def grant_at_decider(step):
         step.decider_is_as_it_was()
         told = sent_one(step, "GRANT", step.client // 4)
         return [f"It is sent on to machine {told['to']}, where its client is, {at(step)}."]
-    if step.sent and step.sent[0]["rejected"]:
+    if not is_current(step):
         return rejected(step)
-    owner = step.after["decider"]
-    sent_one(step, "GRANT", owner["machine"])
-    return [f"Agent and decider have both counted {counts(step)[0]}: machine {owner['machine']} is the owner now, {MODES[owner['mode']]}.",
-            f"The GRANT with the agent goes to machine {owner['machine']}, {at(step)}; both incarnations are 0 now."]
+    owner = step.client // 4
+    becomes_owner(step, writer=preferred(step, step.packet["agent"]) is not None)
+    step.need(step.sent == [{**step.packet, "to": owner, "agent": {**step.packet["agent"], "incarnation": 0}}])
+    return [f"Agent and decider have both counted {counts(step)[0]}: machine {owner} is the owner now, {MODES[step.packet['mode']]}.",
+            f"The GRANT with the agent goes to machine {owner}, {at(step)}; both incarnations are 0 now.", *learns(step)]
+
+
+def learns(step):
+    """What the queue of the agent in a GRANT tells the decider of writers, whatever it knew before."""
+    knew, writer = step.before["decider"]["writer"], preferred(step, step.packet["agent"])
+    if writer is None:
+        return ["The agent's queue has no writer: the decider forgets that a writer waits."] if knew else []
+    return [f"The decider {'still knows' if knew else 'notes'} that a writer waits: {client(writer)} is in the agent's queue."]
 
 
 # At a machine.
@@ -200,14 +278,25 @@ def acquire_at_machine(step):
     of = client(step.client)
     if came_back(step):
         return [f"Machine {step.machine} has no agent: the {step.packet['kind']} goes back to the decider, unchanged, {at(step)}."]
-    if lists(agent_after(step), step.client) and step.packet["granted"]:
-        return [f"The agent on machine {step.machine} lists {of} and counts up to {agent_after(step)['incarnation']}."]
-    if lists(agent_after(step), step.client):
-        told = sent_one(step, "GRANT", None)
-        return [f"Agent and request are shared: the agent on machine {step.machine} lists {of}.",
-                f"{packet(told)}, goes to the decider, {at(step)}."]
-    step.need(stands_in(agent_after(step), step.client))
-    return [f"{of} goes to the end of the queue of the agent on machine {step.machine}."]
+    if step.packet["granted"]:
+        return marked_at_machine(step)
+    if not joins(step, agent_before(step), step.packet["mode"]):
+        return queued(step, step.packet["mode"], of)
+    step.agent_is_as_it_was(holders=listed(step))
+    told = sent_one(step, "GRANT", None)
+    return [f"Agent and request are shared: the agent on machine {step.machine} lists {of}.",
+            f"{packet(told)}, goes to the decider, {at(step)}."]
+
+
+def marked_at_machine(step):
+    """A marked ACQUIRE joins the holders, also where a writer is preferred."""
+    of, counted, writer = client(step.client), (agent_before(step)["incarnation"] + 1) % 256, preferred(step, agent_before(step))
+    step.agent_is_as_it_was(holders=listed(step), incarnation=counted)
+    step.need(not step.sent)
+    told = [f"The agent on machine {step.machine} lists {of} and counts up to {counted}."]
+    if writer is None:
+        return told
+    return [*told, f"A writer, {client(writer)}, stands in the queue, but {of} joins all the same: its ACQUIRE is marked, so granted already."]
 
 
 def release_at_machine(step):

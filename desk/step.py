@@ -2,7 +2,7 @@
 at its index, the later ones move up, and what is sent stands behind them."""
 from dataclasses import dataclass
 
-from desk.lines import NotLines, fresh
+from desk.lines import WRITERS, NotLines, fresh
 
 
 @dataclass
@@ -31,8 +31,17 @@ class Step:
         """The machine at which the step happens; None for the decider."""
         return self.packet["to"] if self.packet else self.line["machine"]
 
-    def decider_is_as_it_was(self):
-        self.need(self.before["decider"] == self.after["decider"])
+    @property
+    def prefers_writers(self):
+        return self.line["preference"] == WRITERS
+
+    def decider_is_as_it_was(self, **but):
+        """The decider after the step is the one before it, but for these fields."""
+        self.need(self.after["decider"] == {**self.before["decider"], **but})
+
+    def agent_is_as_it_was(self, **but):
+        """The same for the agent on the machine."""
+        self.need(self.after["agents"][self.machine] == {**self.before["agents"][self.machine], **but})
 
 
 def step_of(line, before):

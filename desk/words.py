@@ -1,7 +1,7 @@
 """The parts of a lock in the words of docs/protocol.md."""
 
-EXCLUSIVE = 2
-MODES = {EXCLUSIVE: "exclusive", 3: "shared"}
+EXCLUSIVE, SHARED = 2, 3
+MODES = {EXCLUSIVE: "exclusive", SHARED: "shared"}
 STATUSES = {"idle": "is idle", "waiting": "waits", "holding": "holds"}
 UNDER_WAY = {"ACQUIRE": "its ACQUIRE is", "GRANT": "its GRANT is", "rejected GRANT": "its GRANT was rejected and is"}
 
@@ -70,4 +70,4 @@ def agent(agent):
 
 def decider(decider):
     owned = f"{MODES[decider['mode']]}, owner machine {decider['machine']}" if decider["mode"] else "free"
-    return f"{owned}; incarnation {decider['incarnation']}"
+    return f"{owned}; incarnation {decider['incarnation']}" + ("; a writer waits" if decider["writer"] else "")

@@ -19,10 +19,11 @@ pub enum Refusal {
     NotQuiescent,
     /// Also of a hand-made wait that has no reason.
     NotWaiting,
+    PreferenceInvalid,
 }
 
 impl Refusal {
-    /// The refusal's number (document 01, 'Zero and the refusals'; 15: document 02, §2).
+    /// The refusal's number (document 01, 'Zero and the refusals'; 15 and 16: document 02, §2 and §5).
     pub fn number(self) -> u8 {
         match self {
             Refusal::LockOutOfRange => 1,
@@ -40,6 +41,7 @@ impl Refusal {
             Refusal::TranscriptTooLong => 13,
             Refusal::NotQuiescent => 14,
             Refusal::NotWaiting => 15,
+            Refusal::PreferenceInvalid => 16,
         }
     }
 }

@@ -1,4 +1,4 @@
-//! Delivery of a packet (document 01, 'At the decider' and 'At a machine'; document 02, §3 and §4).
+//! Delivery of a packet (document 01, 'At the decider' and 'At a machine'; document 02, §3 to §5).
 //!
 //! A delivery first chooses its action, which tests refusal 9, then counts the
 //! packets that the action sends, which tests refusal 10, and only then
@@ -7,7 +7,7 @@
 use crate::answer::{Handling, Refusal, StepOutcome};
 use crate::model::{
     Address, Agent, ClientId, ClientStatus, Cluster, Decider, LockId, LockState, MachineId,
-    Message, Mode, Owner, Packet, Waiter,
+    Message, Mode, Owner, Packet, Preference, Waiter,
 };
 use crate::requests::check_wire_length;
 
@@ -77,23 +77,24 @@ impl Cluster {
 
     /// A delivery on a cluster that is known to be well formed.
     pub(crate) fn deliver_checked(&mut self, lock: LockId, index: u8) -> StepOutcome {
+        let preference = self.checked_preference();
         let state = self.lock_mut(lock)?;
-        state.deliver(usize::from(index))
+        state.deliver(usize::from(index), preference)
     }
 }
 
 impl LockState {
-    pub(crate) fn deliver(&mut self, index: usize) -> StepOutcome {
+    pub(crate) fn deliver(&mut self, index: usize, preference: Preference) -> StepOutcome {
         let packet = self.wire.get(index).ok_or(Refusal::IndexOutOfRange)?;
         let action = match packet.address {
             Address::Decider => self.decider.action_for(packet)?,
-            Address::Machine(machine) => self.machine_action(machine, packet)?,
+            Address::Machine(machine) => self.machine_action(machine, packet, preference)?,
         };
         let expected = self.wire.len() - 1 + self.sent_by(action, packet);
         check_wire_length(expected)?;
         let packet = self.wire.remove(index);
         match packet.address {
-            Address::Decider => self.apply_at_decider(action, packet),
+            Address::Decider => self.apply_at_decider(action, packet, preference),
             Address::Machine(_) => self.apply_at_machine(action, packet),
         }
         debug_assert_eq!(self.wire.len(), expected);
@@ -124,7 +125,12 @@ impl LockState {
         }
     }
 
-    fn machine_action(&self, machine: MachineId, packet: &Packet) -> Result<Action, Refusal> {
+    fn machine_action(
+        &self,
+        machine: MachineId,
+        packet: &Packet,
+        preference: Preference,
+    ) -> Result<Action, Refusal> {
         let installed = self.agents[machine.index()].as_ref();
         if let Some(carried) = &packet.agent {
             return carried_agent_action(machine, installed, carried, packet);
@@ -141,7 +147,7 @@ impl LockState {
                 Mode::Exclusive => Err(Refusal::CannotBePlaced),
             },
             (Message::Acquire { client, mode, .. }, Some(agent)) => {
-                if agent.mode == Mode::Shared && mode == Mode::Shared {
+                if agent.admits(mode, preference) {
                     Ok(Action::AddHolder(machine))
                 } else if agent.can_enqueue(client) {
                     Ok(Action::Enqueue(machine))
@@ -161,16 +167,18 @@ impl LockState {
         }
     }
 
-    fn apply_at_decider(&mut self, action: Action, mut packet: Packet) {
+    fn apply_at_decider(&mut self, action: Action, mut packet: Packet, preference: Preference) {
         match action {
             Action::CreateAgent => self.create_agent(packet.message),
             Action::GrantShared(owner) => self.grant_shared(owner, packet.message),
             Action::Forward(machine) => {
+                let is_writer = packet.message.unmarked_mode() == Some(Mode::Exclusive);
+                self.decider.writer_waits |= preference == Preference::Writers && is_writer;
                 packet.address = Address::Machine(machine);
                 self.wire.push(packet);
             }
             Action::FreeLock => self.decider = Decider::default(),
-            Action::TransferAgent => self.transfer_agent(packet),
+            Action::TransferAgent => self.transfer_agent(packet, preference),
             Action::RejectAgent(owner) => {
                 packet.rejected = true;
                 packet.address = Address::Machine(owner.machine);
@@ -188,6 +196,8 @@ impl LockState {
         self.decider = Decider {
             owner: Some(Owner { mode, machine }),
             incarnation: 0,
+            // No writer is sent on, so nothing is said of the bit.
+            writer_waits: self.decider.writer_waits,
         };
         self.wire.push(Packet::with_agent(
             Message::Grant { client, mode },
@@ -217,7 +227,7 @@ impl LockState {
         ));
     }
 
-    fn transfer_agent(&mut self, mut packet: Packet) {
+    fn transfer_agent(&mut self, mut packet: Packet, preference: Preference) {
         let (Message::Grant { client, mode }, Some(agent)) = (packet.message, &mut packet.agent)
         else {
             unreachable!("only a GRANT with agent transfers an agent");
@@ -226,6 +236,7 @@ impl LockState {
         self.decider = Decider {
             owner: Some(Owner { mode, machine }),
             incarnation: 0,
+            writer_waits: preference == Preference::Writers && agent.has_queued_writer(),
         };
         agent.incarnation = 0;
         packet.address = Address::Machine(machine);
@@ -311,10 +322,7 @@ impl Decider {
         if let (Message::Grant { client, .. }, None) = (packet.message, &packet.agent) {
             return Ok(Action::Forward(client.machine()));
         }
-        let unmarked_mode = match packet.message {
-            Message::Acquire { mode, granted, .. } if !granted => Some(mode),
-            _ => None,
-        };
+        let unmarked_mode = packet.message.unmarked_mode();
         let Some(owner) = self.owner else {
             // A free lock has no agent, so only a new request makes sense here
             // (document 01, 'Zero and the refusals').
@@ -323,7 +331,7 @@ impl Decider {
         };
         let Some(agent) = &packet.agent else {
             let both_shared = owner.mode == Mode::Shared && unmarked_mode == Some(Mode::Shared);
-            return Ok(if both_shared {
+            return Ok(if both_shared && !self.writer_waits {
                 Action::GrantShared(owner)
             } else {
                 Action::Forward(owner.machine)
@@ -339,6 +347,16 @@ impl Decider {
         } else {
             Action::TransferAgent
         })
+    }
+}
+
+impl Message {
+    /// The mode of an ACQUIRE that the decider has not granted.
+    fn unmarked_mode(&self) -> Option<Mode> {
+        match *self {
+            Message::Acquire { mode, granted, .. } if !granted => Some(mode),
+            _ => None,
+        }
     }
 }
 

@@ -33,6 +33,7 @@ impl Digest {
     }
 
     pub fn cluster(&mut self, cluster: &Cluster) {
+        self.byte(cluster.preference);
         for lock in &cluster.locks {
             self.lock(lock);
         }
@@ -43,6 +44,7 @@ impl Digest {
         self.byte(owner.map_or(0, |o| o.mode.number()));
         self.byte(owner.map_or(0, |o| o.machine.0));
         self.byte(lock.decider.incarnation);
+        self.byte(u8::from(lock.decider.writer_waits));
         for agent in &lock.agents {
             self.optional_agent(agent.as_ref());
         }

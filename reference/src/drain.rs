@@ -1,7 +1,7 @@
 //! The drain of one lock (document 01, 'Draining a lock'; document 02, §4).
 
 use crate::answer::{without_handling, Handling, Refusal, StepOutcome};
-use crate::model::{ClientId, ClientStatus, Cluster, LockId, LockState, CLIENTS};
+use crate::model::{ClientId, ClientStatus, Cluster, LockId, LockState, Preference, CLIENTS};
 
 /// A drain that needs more steps is refused with 14 (document 01, 'Zero and
 /// the refusals').
@@ -34,9 +34,10 @@ impl Cluster {
         show: impl FnMut(u16, Handling, &LockState),
     ) -> Result<Drained, Refusal> {
         self.check_well_formed()?;
+        let preference = self.checked_preference();
         let state = self.lock_mut(lock)?;
         let mut drained = state.clone();
-        let outcome = drained.drain(show)?;
+        let outcome = drained.drain(preference, show)?;
         *state = drained;
         Ok(outcome)
     }
@@ -50,6 +51,7 @@ impl LockState {
 
     fn drain(
         &mut self,
+        preference: Preference,
         mut show: impl FnMut(u16, Handling, &LockState),
     ) -> Result<Drained, Refusal> {
         let mut drained = Drained::default();
@@ -57,7 +59,7 @@ impl LockState {
             if drained.count == DRAIN_LIMIT {
                 return Err(Refusal::NotQuiescent);
             }
-            let handling = self.perform(step)?;
+            let handling = self.perform(step, preference)?;
             drained.count += 1;
             drained.handling.meet(handling);
             show(drained.count, handling, self);
@@ -76,9 +78,9 @@ impl LockState {
         Some(DrainStep::Release(ClientId(lowest as u8)))
     }
 
-    fn perform(&mut self, step: DrainStep) -> StepOutcome {
+    fn perform(&mut self, step: DrainStep, preference: Preference) -> StepOutcome {
         match step {
-            DrainStep::DeliverOldest => self.deliver(0),
+            DrainStep::DeliverOldest => self.deliver(0, preference),
             DrainStep::Release(client) => without_handling(self.release(client)),
         }
     }

@@ -13,9 +13,18 @@ use crate::transcript::{Record, TranscriptOutcome};
 use std::fmt;
 use std::io::{self, Write};
 
-/// Runs a transcript on a fresh cluster and writes all its lines.
-pub fn inspect(bytes: &[u8], out: &mut dyn Write) -> io::Result<()> {
-    let mut cluster = Cluster::new();
+/// Runs a transcript on a fresh cluster with this preference and writes all its lines.
+pub fn inspect(preference: u8, bytes: &[u8], out: &mut dyn Write) -> io::Result<()> {
+    let (made, mut cluster) = Cluster::fresh(preference);
+    if made.is_err() {
+        // Nothing is run, and the transcript is not looked at.
+        let nothing = TranscriptOutcome {
+            answer: made,
+            record: 0,
+            handling: Handling::None,
+        };
+        return end_line(nothing, &cluster, out);
+    }
     let mut written = Ok(());
     let outcome = cluster.run_transcript_with(bytes, |number, record, outcome, cluster| {
         // A run cannot be stopped from here; after an error it goes on in silence.
@@ -36,13 +45,13 @@ fn record_line(
 ) -> io::Result<()> {
     let (call, answer) = (Json(record), answer_number(&outcome));
     let handling = outcome.unwrap_or_default();
-    let handling = Json(&handling);
+    let (handling, preference) = (Json(&handling), cluster.preference);
     // A lock out of range has no state, and nothing to count.
     let state = cluster.locks.get(record.lock().index());
     let counts = state.map(Counts::of);
     let (state, counts) = (OrNull(state.map(Json)), OrNull(counts.as_ref().map(Json)));
     write!(out, r#"{{"n":{number},{call},"answer":{answer},"#)?;
-    write!(out, r#""handling":{handling},"#)?;
+    write!(out, r#""handling":{handling},"preference":{preference},"#)?;
     writeln!(out, r#""state":{state},"counts":{counts}}}"#)
 }
 
@@ -51,16 +60,18 @@ fn end_line(outcome: TranscriptOutcome, cluster: &Cluster, out: &mut dyn Write) 
         Ok(()) => "end",
         Err(Refusal::RecordInvalid) => "bad record",
         Err(Refusal::TranscriptTooLong) => "too long",
+        Err(Refusal::PreferenceInvalid) => "bad preference",
         Err(_) => unreachable!("a fresh cluster is well formed"),
     };
     let (answer, records) = (answer_number(&outcome.answer), outcome.record);
-    let handling = Json(&outcome.handling);
+    let (handling, preference) = (Json(&outcome.handling), cluster.preference);
     let drains = List((0..LOCKS as u8).map(|lock| drain_object(LockId(lock), cluster)));
     write!(
         out,
         r#"{{"end":"{end}","answer":{answer},"records":{records},"#
     )?;
-    writeln!(out, r#""handling":{handling},"drains":[{drains}]}}"#)
+    write!(out, r#""handling":{handling},"preference":{preference},"#)?;
+    writeln!(out, r#""drains":[{drains}]}}"#)
 }
 
 /// What draining one lock gives, on a copy, so that no drain sees another.
@@ -166,13 +177,18 @@ impl fmt::Display for Json<'_, Counts> {
 
 impl fmt::Display for Json<'_, Decider> {
     fn fmt(&self, f: &mut fmt::Formatter) -> fmt::Result {
-        let Decider { owner, incarnation } = *self.0;
+        let Decider {
+            owner,
+            incarnation,
+            writer_waits,
+        } = *self.0;
         // A free lock has mode 0, but no machine.
         let mode = owner.map_or(0, |owner| owner.mode.number());
         let machine = OrNull(owner.map(|owner| owner.machine.0));
+        write!(f, r#"{{"mode":{mode},"machine":{machine},"#)?;
         write!(
             f,
-            r#"{{"mode":{mode},"machine":{machine},"incarnation":{incarnation}}}"#
+            r#""incarnation":{incarnation},"writer":{writer_waits}}}"#
         )
     }
 }

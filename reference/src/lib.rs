@@ -2,7 +2,8 @@
 //!
 //! A cluster has eight locks on four machines with four tasks each. Its calls
 //! are `acquire`, `release`, `deliver`, `drain` and `run_transcript`; a refused
-//! call leaves the cluster exactly as it was. `reason` only reads it.
+//! call leaves the cluster exactly as it was. `reason` only reads it, and
+//! `fresh` makes it.
 
 pub mod answer;
 pub mod counts;
@@ -14,6 +15,7 @@ pub mod handlings;
 pub mod inspect;
 pub mod installations;
 pub mod model;
+pub mod preferences;
 pub mod random_calls;
 pub mod random_runs;
 pub mod random_states;

@@ -3,36 +3,71 @@
 use reference::generator::SEED_LIMIT;
 use reference::inspect::inspect;
 use reference::random_calls::{DELIVER, DRAIN, TRANSCRIPT};
-use reference::random_runs::{random_run, FIRST_RUN, LAST_RUN};
+use reference::random_runs::{fresh_clusters, random_run, FIRST_RUN, LAST_RUN};
 use reference::random_states::{random_state, FIRST_STATE, LAST_STATE};
 use reference::random_transcripts::{
     long_transcript_bytes, random_transcript, transcript_bytes, FIRST_TRANSCRIPT, LAST_TRANSCRIPT,
 };
 use reference::report::{Report, KINDS};
 use reference::transcript::{listing, TRANSCRIPT_LIMIT};
+use std::borrow::Cow;
+use std::ffi::OsString;
 use std::io::{self, BufWriter, Read, Write};
 use std::ops::RangeInclusive;
 use std::process::ExitCode;
 
-const USAGE: &str = "usage: reference replay|inspect < TRANSCRIPT
+const USAGE: &str = "usage: reference replay < TRANSCRIPT
+       reference inspect [PREFERENCE] < TRANSCRIPT
        reference runs|states|transcripts [SEED] [--each-step]
        reference bytes|long SEED
        reference counts";
 
-type RunSeed = fn(u64, &mut Report) -> io::Result<()>;
+/// A part of docs/random-runs.md.
+struct Part {
+    /// What comes before all its seeds, but not before one alone.
+    opening: fn(&mut Report) -> io::Result<()>,
+    run: fn(u64, &mut Report) -> io::Result<()>,
+    all: RangeInclusive<u64>,
+}
 
-const RUNS: (RunSeed, RangeInclusive<u64>) = (random_run, FIRST_RUN..=LAST_RUN);
-const STATES: (RunSeed, RangeInclusive<u64>) = (random_state, FIRST_STATE..=LAST_STATE);
-const TRANSCRIPTS: (RunSeed, RangeInclusive<u64>) =
-    (random_transcript, FIRST_TRANSCRIPT..=LAST_TRANSCRIPT);
+const RUNS: Part = Part {
+    opening: fresh_clusters,
+    run: random_run,
+    all: FIRST_RUN..=LAST_RUN,
+};
+const STATES: Part = Part {
+    opening: |_| Ok(()),
+    run: random_state,
+    all: FIRST_STATE..=LAST_STATE,
+};
+const TRANSCRIPTS: Part = Part {
+    opening: |_| Ok(()),
+    run: random_transcript,
+    all: FIRST_TRANSCRIPT..=LAST_TRANSCRIPT,
+};
+
+impl Part {
+    fn run_all(self, report: &mut Report) -> io::Result<()> {
+        (self.opening)(report)?;
+        for seed in self.all {
+            (self.run)(seed, report)?;
+        }
+        Ok(())
+    }
+}
 
 fn main() -> ExitCode {
-    let arguments: Vec<String> = std::env::args().skip(1).collect();
-    let words: Vec<&str> = arguments.iter().map(String::as_str).collect();
+    let arguments: Vec<OsString> = std::env::args_os().skip(1).collect();
+    // What is no text is no number and no word that is known either.
+    let arguments: Vec<Cow<str>> = arguments.iter().map(|a| a.to_string_lossy()).collect();
+    let words: Vec<&str> = arguments.iter().map(AsRef::as_ref).collect();
     let mut out = BufWriter::new(io::stdout().lock());
     let done = match words.as_slice() {
         ["replay"] => replay(&mut out),
-        ["inspect"] => read_transcript().and_then(|bytes| inspect(&bytes, &mut out)),
+        ["inspect", options @ ..] => {
+            let preference = options.first().map_or(0, |word| parse_preference(word));
+            read_transcript().and_then(|bytes| inspect(preference, &bytes, &mut out))
+        }
         ["runs", options @ ..] => seeds(RUNS, options, &mut out),
         ["states", options @ ..] => seeds(STATES, options, &mut out),
         ["transcripts", options @ ..] => seeds(TRANSCRIPTS, options, &mut out),
@@ -68,12 +103,16 @@ fn read_transcript() -> io::Result<Vec<u8>> {
     Ok(transcript)
 }
 
+/// A decimal number; above 255, and without one, it is 255.
+fn parse_preference(word: &str) -> u8 {
+    let is_number = !word.is_empty() && word.bytes().all(|byte| byte.is_ascii_digit());
+    // Of digits alone only a number that is too great is not parsed.
+    let parsed = word.parse().ok().filter(|_| is_number);
+    parsed.unwrap_or(u8::MAX)
+}
+
 /// Runs all seeds, or the one that the options name.
-fn seeds(
-    (run, all): (RunSeed, RangeInclusive<u64>),
-    options: &[&str],
-    out: &mut dyn Write,
-) -> io::Result<()> {
+fn seeds(part: Part, options: &[&str], out: &mut dyn Write) -> io::Result<()> {
     let (seed, each_step) = match options {
         [] => (None, false),
         ["--each-step"] => (None, true),
@@ -82,10 +121,10 @@ fn seeds(
         _ => return Err(usage()),
     };
     let mut report = Report::new(out, each_step);
-    for seed in seed.map_or(all, |seed| seed..=seed) {
-        run(seed, &mut report)?;
+    match seed {
+        Some(seed) => (part.run)(seed, &mut report),
+        None => part.run_all(&mut report),
     }
-    Ok(())
 }
 
 fn parse_seed(word: &str) -> io::Result<u64> {
@@ -97,7 +136,7 @@ fn bytes(make: fn(u64) -> Vec<u8>, seed: &str, out: &mut dyn Write) -> io::Resul
     out.write_all(&make(parse_seed(seed)?))
 }
 
-/// How often each kind of call met each answer, from 0 to 15, and what the tests met.
+/// How often each kind of call met each answer, from 0 to 16, and what the tests met.
 fn counts(out: &mut dyn Write) -> io::Result<()> {
     // With the calls of each part that may have a handling.
     let parts = [
@@ -105,12 +144,10 @@ fn counts(out: &mut dyn Write) -> io::Result<()> {
         ("states", STATES, [DELIVER, DRAIN]),
         ("transcripts", TRANSCRIPTS, [DELIVER, TRANSCRIPT]),
     ];
-    for (name, (run, all), handling_calls) in parts {
+    for (name, part, handling_calls) in parts {
         let mut nowhere = io::sink();
         let mut report = Report::new(&mut nowhere, false);
-        for seed in all {
-            run(seed, &mut report)?;
-        }
+        part.run_all(&mut report)?;
         let tally = report.tally;
         for (kind, answers) in KINDS.iter().zip(tally.answers) {
             writeln!(out, "{name} {kind} {answers:?}")?;
@@ -138,6 +175,7 @@ fn counts(out: &mut dyn Write) -> io::Result<()> {
         for kind in handling_calls {
             writeln!(out, "{name} {}", tally.handled_line(kind))?;
         }
+        writeln!(out, "{name} {}", tally.behind_writer_line())?;
     }
     Ok(())
 }

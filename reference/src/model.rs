@@ -1,9 +1,10 @@
 //! The state of the cluster: locks, machines, tasks and packets in flight
-//! (document 01, 'What stands on the bench').
+//! (document 01, 'What stands on the bench'), and its preference (document 02, §5).
 //!
 //! The types can also hold states outside the bounds of document 01, so that
 //! hand-made malformed states can be represented and refused.
 
+use crate::answer::{Outcome, Refusal};
 use std::collections::VecDeque;
 
 pub const LOCKS: usize = 8;
@@ -95,6 +96,23 @@ impl Mode {
     }
 }
 
+/// Whom a site prefers.
+#[derive(Clone, Copy, Debug, PartialEq, Eq)]
+pub enum Preference {
+    Readers,
+    Writers,
+}
+
+impl Preference {
+    pub fn from_number(number: u8) -> Option<Self> {
+        match number {
+            0 => Some(Preference::Readers),
+            1 => Some(Preference::Writers),
+            _ => None,
+        }
+    }
+}
+
 /// A set of the sixteen clients, one bit for each.
 #[derive(Clone, Copy, Debug, Default, PartialEq, Eq)]
 pub struct ClientSet(u16);
@@ -146,6 +164,19 @@ impl Agent {
         }
     }
 
+    /// Whether an unmarked request joins the holders; otherwise it is queued. Sites that prefer writers let no reader pass one
+    /// in the queue (document 02, §5).
+    pub(crate) fn admits(&self, mode: Mode, preference: Preference) -> bool {
+        let both_shared = self.mode == Mode::Shared && mode == Mode::Shared;
+        both_shared && (preference == Preference::Readers || !self.has_queued_writer())
+    }
+
+    pub(crate) fn has_queued_writer(&self) -> bool {
+        self.queue
+            .iter()
+            .any(|waiter| waiter.mode == Mode::Exclusive)
+    }
+
     /// Whether the queue has room and does not have the client yet; otherwise a
     /// step is refused with 9 (document 01, 'Zero and the refusals').
     pub fn can_enqueue(&self, client: ClientId) -> bool {
@@ -165,6 +196,8 @@ pub struct Owner {
 pub struct Decider {
     pub owner: Option<Owner>,
     pub incarnation: u8,
+    /// Keeps later readers out; only sites that prefer writers set it.
+    pub writer_waits: bool,
 }
 
 #[derive(Clone, Copy, Debug, Default, PartialEq, Eq)]
@@ -250,14 +283,30 @@ pub struct LockState {
     pub stale_slot: bool,
 }
 
-/// The default cluster is the fresh one.
+/// The default cluster is the fresh one that prefers readers.
 #[derive(Clone, Debug, Default, PartialEq, Eq)]
 pub struct Cluster {
+    /// The number of a preference; hand-made clusters may have any.
+    pub preference: u8,
     pub locks: [LockState; LOCKS],
 }
 
 impl Cluster {
     pub fn new() -> Self {
         Cluster::default()
+    }
+
+    /// The fresh cluster with a preference. Beside refusal 16 it is the one that prefers readers.
+    pub fn fresh(preference: u8) -> (Outcome, Self) {
+        match Preference::from_number(preference) {
+            Some(_) => (
+                Ok(()),
+                Cluster {
+                    preference,
+                    ..Cluster::new()
+                },
+            ),
+            None => (Err(Refusal::PreferenceInvalid), Cluster::new()),
+        }
     }
 }

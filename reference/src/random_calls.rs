@@ -17,6 +17,8 @@ pub const DELIVER: u8 = 3;
 pub const DRAIN: u8 = 4;
 /// No step chooses this kind; one such ask follows each call.
 pub const REASON: u8 = 5;
+/// No step chooses this kind; all such calls come before the runs.
+pub const FRESH: u8 = 6;
 
 /// From this number on, out of 64, a client acquires whatever its status is.
 const BOLD: u64 = 62;
@@ -212,10 +214,12 @@ impl Call {
         }
     }
 
-    /// What the call is to bring a machine; no kind but a delivery does.
+    /// What the call is to bring a machine, where it is a delivery, or to ask of it.
     pub fn incoming(&self, cluster: &Cluster) -> Incoming {
+        let (lock, machine, task) = (self.lock, self.machine, self.task);
         match self.kind {
-            DELIVER => Incoming::of_delivery(cluster, self.lock, self.index),
+            ACQUIRE => Incoming::of_acquire(cluster, lock, machine, task, self.mode),
+            DELIVER => Incoming::of_delivery(cluster, lock, self.index),
             _ => Incoming::default(),
         }
     }

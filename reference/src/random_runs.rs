@@ -6,7 +6,7 @@ use crate::drain::Drained;
 use crate::generator::Generator;
 use crate::handlings::StepHandlings;
 use crate::model::{ClientId, Cluster, LockId, LockState};
-use crate::random_calls::{Call, Profile, DRAIN, REASON};
+use crate::random_calls::{Call, Profile, DRAIN, FRESH, REASON};
 use crate::reasons::reason_numbers;
 use crate::report::{Incoming, Observation, Report, Tally};
 use std::io;
@@ -60,11 +60,25 @@ impl Given {
     }
 }
 
+/// Makes a fresh cluster with each number for its preference, and writes the line before the runs.
+pub fn fresh_clusters(report: &mut Report) -> io::Result<()> {
+    let mut digest = Digest::new(0);
+    for preference in 0..=u8::MAX {
+        let (outcome, cluster) = Cluster::fresh(preference);
+        let answer = answer_number(&outcome);
+        report.tally.count(FRESH, answer);
+        digest.bytes(&[preference, answer]);
+        digest.cluster(&cluster);
+    }
+    writeln!(report.out, "fresh digest {}", digest.value())
+}
+
 /// Runs one seed of `runs`.
 pub fn random_run(seed: u64, report: &mut Report) -> io::Result<()> {
     let profile = Profile::of_seed(seed);
     let generator = Generator::new(seed);
-    let cluster = Cluster::new();
+    // Each profile has both preferences in turn.
+    let (_, cluster) = Cluster::fresh((seed / 9 % 2) as u8);
     let run = Run::new("run", seed, profile, generator, cluster);
     run.tested().finish(report)
 }
@@ -187,8 +201,9 @@ impl Run {
         let mut steps = StepHandlings::default();
         // Of the packets a drain delivers only the oldest (document 01, 'Draining a lock').
         let mut next = Incoming::of_delivery(drained, call.lock, 0);
+        let preference = drained.preference;
         let outcome = drained.drain_with(call.lock, |number, handling, state| {
-            let incoming = std::mem::replace(&mut next, Incoming::at(state, 0));
+            let incoming = std::mem::replace(&mut next, Incoming::at(state, 0, preference));
             // A drain cannot be stopped from here; after a failure it goes on untested.
             if tested.is_ok() {
                 let result = self.test_drain_step(incoming, handling, state, &mut steps, tally);
@@ -203,7 +218,7 @@ impl Run {
         tested = tested.and_then(|()| tally.test_last_handling(call.kind, &steps, given.handling));
         if self.is_tested {
             // The last step has tested the state already.
-            tested = tested.and_then(|()| tally.test_call(call.kind, &outcome, None));
+            tested = tested.and_then(|()| tally.test_call(call.kind, &outcome, None, preference));
         }
         (given, tested)
     }
@@ -218,8 +233,9 @@ impl Run {
     ) -> Result<(), String> {
         tally.test_installation(incoming.installation, Some(state))?;
         steps.test_step(incoming.arrival.as_ref(), handling, state)?;
+        tally.test_behind_writer(incoming.behind_writer, Some(state))?;
         if self.is_tested {
-            tally.test_state(state)?;
+            tally.test_state(state, self.cluster.preference)?;
         }
         Ok(())
     }
@@ -236,10 +252,12 @@ impl Run {
         let tally = &mut report.tally;
         let incoming = incoming.if_accepted(outcome);
         let mut tested = tally.test_installation(incoming.installation, state);
-        tested =
-            tested.and_then(|()| tally.test_handling(call.kind, incoming.arrival, handling, state));
+        tested = tested
+            .and_then(|()| tally.test_handling(call.kind, incoming.arrival, handling, state))
+            .and_then(|()| tally.test_behind_writer(incoming.behind_writer, state));
         if self.is_tested {
-            tested = tested.and_then(|()| tally.test_call(call.kind, outcome, state));
+            let preference = self.cluster.preference;
+            tested = tested.and_then(|()| tally.test_call(call.kind, outcome, state, preference));
         }
         self.stop_if_broken(call.lock, tested)
     }

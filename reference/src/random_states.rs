@@ -11,7 +11,7 @@ use crate::report::Report;
 use std::io;
 
 pub const FIRST_STATE: u64 = 1;
-pub const LAST_STATE: u64 = 4_000;
+pub const LAST_STATE: u64 = 5_000;
 
 const WIRE_LENGTHS: [usize; 16] = [0, 0, 1, 1, 1, 2, 2, 2, 3, 3, 4, 5, 6, 31, 32, 33];
 const QUEUE_LENGTHS: [usize; 8] = [0, 0, 0, 1, 2, 3, 15, 16];
@@ -34,10 +34,12 @@ enum Fault {
     OwnerOutOfRange,
     WireTooLong,
     StaleWireSlot,
+    PreferenceOutOfRange,
+    BitSet,
 }
 
 /// The faults by their numbers; greater numbers are no faults.
-const FAULTS: [Fault; 13] = [
+const FAULTS: [Fault; 15] = [
     Fault::None,
     Fault::WaiterOutOfRange,
     Fault::WaiterTwice,
@@ -51,6 +53,8 @@ const FAULTS: [Fault; 13] = [
     Fault::OwnerOutOfRange,
     Fault::WireTooLong,
     Fault::StaleWireSlot,
+    Fault::PreferenceOutOfRange,
+    Fault::BitSet,
 ];
 
 /// A fault, the number for what is out of range, and the slot that has it:
@@ -85,16 +89,25 @@ pub fn random_state(seed: u64, report: &mut Report) -> io::Result<()> {
 
 /// One or two hand-made locks; the others are fresh.
 pub fn hand_made_cluster(seed: u64, generator: &mut Generator) -> Cluster {
-    let mut cluster = Cluster::new();
+    let preference = (seed / 32 % 2) as u8;
+    let (_, mut cluster) = Cluster::fresh(preference);
     let first = (seed % LOCKS as u64) as usize;
-    cluster.locks[first] = draw_lock(generator);
-    if seed / 8 % 2 == 1 {
-        cluster.locks[(first + 1) % LOCKS] = draw_lock(generator);
+    let second = (first + 1) % LOCKS;
+    let drawn = [first, second]
+        .into_iter()
+        .take(1 + (seed / 8 % 2) as usize);
+    for lock in drawn {
+        let (state, flaw) = draw_lock(generator, preference);
+        cluster.locks[lock] = state;
+        if flaw.fault == Fault::PreferenceOutOfRange {
+            cluster.preference = 2 + flaw.value;
+        }
     }
     cluster
 }
 
-fn draw_lock(generator: &mut Generator) -> LockState {
+/// A lock of a cluster that without faults has this preference, and the flaw that was drawn for it.
+fn draw_lock(generator: &mut Generator, preference: u8) -> (LockState, Flaw) {
     let number = generator.draw(16) as usize;
     let fault = FAULTS.get(number).copied().unwrap_or(Fault::None);
     let value = generator.draw(239) as u8;
@@ -110,7 +123,7 @@ fn draw_lock(generator: &mut Generator) -> LockState {
         target,
     };
     let mut lock = LockState {
-        decider: draw_decider(generator, flaw),
+        decider: draw_decider(generator, flaw, preference),
         stale_slot: fault == Fault::StaleWireSlot && packets < WIRE_CAPACITY,
         ..LockState::default()
     };
@@ -124,10 +137,10 @@ fn draw_lock(generator: &mut Generator) -> LockState {
         let filler = lock.wire[0].clone();
         lock.wire.resize(34 + usize::from(value % 222), filler);
     }
-    lock
+    (lock, flaw)
 }
 
-fn draw_decider(generator: &mut Generator, flaw: Flaw) -> Decider {
+fn draw_decider(generator: &mut Generator, flaw: Flaw, preference: u8) -> Decider {
     let mode = match generator.draw(4) {
         0 => None,
         1 => Some(Mode::Exclusive),
@@ -141,6 +154,7 @@ fn draw_decider(generator: &mut Generator, flaw: Flaw) -> Decider {
     Decider {
         owner: mode.map(|mode| Owner { mode, machine }),
         incarnation: draw_incarnation(generator),
+        writer_waits: flaw.fault == Fault::BitSet || (preference == 1 && flaw.value % 2 == 1),
     }
 }
 

@@ -60,7 +60,8 @@ fn count_answers(seed: u64, bytes: &[u8], report: &mut Report) -> io::Result<()>
             let result = tally.test_installation(incoming.installation, state);
             let result = result
                 .and_then(|()| tally.test_handling(kind, incoming.arrival, handling, state))
-                .and_then(|()| tally.test_call(kind, &outcome, state));
+                .and_then(|()| tally.test_behind_writer(incoming.behind_writer, state))
+                .and_then(|()| tally.test_call(kind, &outcome, state, cluster.preference));
             tested = result.map_err(|broken| {
                 let place = format!("transcript {seed} record {number} lock {}", lock.0);
                 io::Error::other(format!("{place}: {broken}"))
@@ -74,11 +75,14 @@ fn count_answers(seed: u64, bytes: &[u8], report: &mut Report) -> io::Result<()>
     result.map_err(|broken| io::Error::other(format!("transcript {seed}: {broken}")))
 }
 
-/// What a record is to bring a machine, on the cluster before it.
+/// What a record is to bring a machine, or to ask of it, on the cluster before it.
 fn incoming(record: &Record, before: &Cluster) -> Incoming {
     match *record {
+        Record::Acquire(lock, machine, task, mode) => {
+            Incoming::of_acquire(before, lock, machine, task, mode)
+        }
+        Record::Release(..) => Incoming::default(),
         Record::Deliver(lock, index) => Incoming::of_delivery(before, lock, index),
-        Record::Acquire(..) | Record::Release(..) => Incoming::default(),
     }
 }
 

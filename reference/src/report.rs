@@ -4,20 +4,22 @@ use crate::answer::{Handling, Refusal};
 use crate::counts::Counts;
 use crate::handlings::{check_step, Arrival, StepHandlings};
 use crate::installations::Installation;
-use crate::model::{Cluster, LockId, LockState, WIRE_CAPACITY};
+use crate::model::{Cluster, LockId, LockState, MachineId, Preference, TaskId, WIRE_CAPACITY};
+use crate::preferences::BehindWriter;
 use crate::reasons::{Reason, REASON_KINDS};
 use std::io::Write;
 
-/// Kinds of calls: 0 a whole transcript, then acquire, release, deliver, drain, reason.
-pub const KINDS: [&str; 6] = [
+/// Kinds of calls: 0 a whole transcript, then acquire, release, deliver, drain, reason, fresh.
+pub const KINDS: [&str; 7] = [
     "transcript",
     "acquire",
     "release",
     "deliver",
     "drain",
     "reason",
+    "fresh",
 ];
-const ANSWERS: usize = 16;
+const ANSWERS: usize = 17;
 const HANDLINGS: usize = 4;
 
 /// How often each kind of call met each answer, and some extremes.
@@ -43,6 +45,9 @@ pub struct Tally {
     pub readers_kept: u64,
     /// How often each kind of call gave each handling, none too.
     pub handled: [[u64; HANDLINGS]; KINDS.len()],
+    /// How many readers were queued behind a writer where writers are preferred, and how many joined past one where readers are.
+    pub readers_queued: u64,
+    pub readers_joined: u64,
 }
 
 impl Tally {
@@ -72,14 +77,14 @@ impl Tally {
         }
     }
 
-    /// Tests the state of a lock that a fresh cluster came to, and notes its counts.
-    pub fn test_state(&mut self, state: &LockState) -> Result<(), String> {
+    /// Tests the state of a lock that a fresh cluster with this preference came to, and notes its counts.
+    pub fn test_state(&mut self, state: &LockState, preference: u8) -> Result<(), String> {
         self.tested_states += 1;
         self.most_marked = self.most_marked.max(Counts::of(state).marked);
         self.most_packets = self.most_packets.max(state.wire.len());
         state.check_counts()?;
         self.tested_waits += state.check_reasons()? as u64;
-        Ok(())
+        state.check_writer_bit(preference)
     }
 
     /// The same after a call, with its answer; a lock out of range has no state.
@@ -88,9 +93,10 @@ impl Tally {
         kind: u8,
         outcome: &Result<T, Refusal>,
         state: Option<&LockState>,
+        preference: u8,
     ) -> Result<(), String> {
         if let Some(state) = state {
-            self.test_state(state)?;
+            self.test_state(state, preference)?;
         }
         check_answer(kind, outcome)
     }
@@ -106,6 +112,28 @@ impl Tally {
             self.readers_kept += u64::from(installation.check(after)?);
         }
         Ok(())
+    }
+
+    /// Tests what became of a reader's request behind a writer, and counts it; hand-made states pass this test too.
+    pub fn test_behind_writer(
+        &mut self,
+        request: Option<BehindWriter>,
+        after: Option<&LockState>,
+    ) -> Result<(), String> {
+        if let (Some(request), Some(after)) = (request, after) {
+            request.check(after)?;
+            match request.preference() {
+                Preference::Readers => self.readers_joined += 1,
+                Preference::Writers => self.readers_queued += 1,
+            }
+        }
+        Ok(())
+    }
+
+    /// How many of them there were, in words.
+    pub fn behind_writer_line(&self) -> String {
+        let (queued, joined) = (self.readers_queued, self.readers_joined);
+        format!("behind a writer queued {queued} joined {joined}")
     }
 
     /// Tests the handling of a call or a record, and counts it; hand-made states pass this test too.
@@ -148,22 +176,40 @@ impl Tally {
 pub struct Incoming {
     pub installation: Option<Installation>,
     pub arrival: Option<Arrival>,
+    pub behind_writer: Option<BehindWriter>,
 }
 
 impl Incoming {
-    /// What the delivery of an index is to bring a machine.
-    pub fn at(state: &LockState, index: usize) -> Self {
+    /// What the delivery of an index is to bring a machine of a cluster with this preference.
+    pub fn at(state: &LockState, index: usize, preference: u8) -> Self {
+        let preference = Preference::from_number(preference);
         Incoming {
             installation: Installation::at(state, index),
             arrival: Arrival::at(state, index),
+            behind_writer: preference
+                .and_then(|preference| BehindWriter::of_delivery(preference, state, index)),
         }
     }
 
     /// The same for a lock that may be out of range.
     pub fn of_delivery(cluster: &Cluster, lock: LockId, index: u8) -> Self {
-        let state = cluster.locks.get(lock.index());
-        let incoming = state.map(|state| Incoming::at(state, usize::from(index)));
+        let (state, index) = (cluster.locks.get(lock.index()), usize::from(index));
+        let incoming = state.map(|state| Incoming::at(state, index, cluster.preference));
         incoming.unwrap_or_default()
+    }
+
+    /// An acquire brings no packet.
+    pub fn of_acquire(
+        cluster: &Cluster,
+        lock: LockId,
+        machine: MachineId,
+        task: TaskId,
+        mode: u8,
+    ) -> Self {
+        Incoming {
+            behind_writer: BehindWriter::of_acquire(cluster, lock, machine, task, mode),
+            ..Incoming::default()
+        }
     }
 
     /// A refused step brings nothing.

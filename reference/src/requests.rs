@@ -1,9 +1,9 @@
-//! Acquire and release by a client (document 01, 'Asking and handing back').
+//! Acquire and release by a client (document 01, 'Asking and handing back'; document 02, §5).
 
 use crate::answer::{Outcome, Refusal};
 use crate::model::{
     Address, ClientId, ClientStatus, Cluster, LockId, LockState, MachineId, Message, Mode, Packet,
-    TaskId, Waiter, WIRE_CAPACITY,
+    Preference, TaskId, Waiter, WIRE_CAPACITY,
 };
 
 impl Cluster {
@@ -20,10 +20,11 @@ impl Cluster {
         task: TaskId,
         mode: u8,
     ) -> Outcome {
+        let preference = self.checked_preference();
         let state = self.lock_mut(lock)?;
         let client = checked_client(machine, task)?;
         let mode = Mode::from_number(mode).ok_or(Refusal::ModeInvalid)?;
-        state.acquire(client, mode)
+        state.acquire(client, mode, preference)
     }
 
     pub fn release(&mut self, lock: LockId, machine: MachineId, task: TaskId) -> Outcome {
@@ -63,7 +64,7 @@ pub(crate) fn checked_client(machine: MachineId, task: TaskId) -> Result<ClientI
 }
 
 impl LockState {
-    fn acquire(&mut self, client: ClientId, mode: Mode) -> Outcome {
+    fn acquire(&mut self, client: ClientId, mode: Mode, preference: Preference) -> Outcome {
         if self.clients[client.index()] != ClientStatus::Idle {
             return Err(Refusal::ClientNotIdle);
         }
@@ -71,7 +72,7 @@ impl LockState {
             return Err(Refusal::ClientOnWire);
         }
         self.clients[client.index()] = match &mut self.agents[client.machine().index()] {
-            Some(agent) if agent.mode == Mode::Shared && mode == Mode::Shared => {
+            Some(agent) if agent.admits(mode, preference) => {
                 agent.holders.insert(client);
                 ClientStatus::Holding(mode)
             }

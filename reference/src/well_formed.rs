@@ -1,13 +1,29 @@
-//! Which clusters are well formed (document 01, 'What stands on the bench').
+//! Which clusters are well formed (document 01, 'What stands on the bench'; document 02, §5).
 
 use crate::answer::{Outcome, Refusal};
 use crate::model::{
-    Address, Agent, ClientSet, Cluster, LockState, Message, Packet, QUEUE_CAPACITY, WIRE_CAPACITY,
+    Address, Agent, ClientSet, Cluster, LockState, Message, Packet, Preference, QUEUE_CAPACITY,
+    WIRE_CAPACITY,
 };
 
 impl Cluster {
     pub fn is_well_formed(&self) -> bool {
-        self.locks.iter().all(LockState::is_well_formed)
+        self.has_allowed_preference() && self.locks.iter().all(LockState::is_well_formed)
+    }
+
+    /// One of the two; where readers are preferred no decider has the bit for a writer.
+    fn has_allowed_preference(&self) -> bool {
+        match Preference::from_number(self.preference) {
+            Some(Preference::Readers) => self.locks.iter().all(|lock| !lock.decider.writer_waits),
+            Some(Preference::Writers) => true,
+            None => false,
+        }
+    }
+
+    /// Whom a well-formed cluster prefers.
+    pub(crate) fn checked_preference(&self) -> Preference {
+        let preference = Preference::from_number(self.preference);
+        preference.expect("a well-formed cluster has one of the two")
     }
 
     /// Refusal 11 comes before every other test of every call.

@@ -405,7 +405,7 @@ fn tally_of(run: fn(u64, &mut Report) -> std::io::Result<()>, seeds: &[u64]) -> 
 fn every_state_of_a_run_is_tested() {
     let tally = tally_of(random_run, &[1, 2, 3, 4, 5, 6, 7, 8, 9]);
     let calls = &tally.answers[1..=3];
-    let on_a_lock = |answers: &[u64; 16]| answers.iter().sum::<u64>() - answers[1];
+    let on_a_lock = |answers: &[u64; 17]| answers.iter().sum::<u64>() - answers[1];
     let expected = calls.iter().map(on_a_lock).sum::<u64>() + tally.drain_steps;
     assert_eq!(tally.tested_states, expected);
     assert!(tally.most_packets >= tally.longest_wire);

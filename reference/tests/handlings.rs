@@ -942,10 +942,11 @@ fn handlings_are_tallied() {
     assert_eq!(test(DRAIN, Handling::Taken), Ok(()));
     assert_eq!(test(TRANSCRIPT, Handling::Taken), Ok(()));
     assert!(test(DRAIN, Handling::NotHolder).is_err());
-    let [transcript, acquire, release, deliver, drain, reason] = tally.handled;
+    let [transcript, acquire, release, deliver, drain, others @ ..] = tally.handled;
     assert_eq!([transcript, deliver], [[0, 0, 0, 1], [1, 1, 0, 1]]);
     assert_eq!(drain, [0, 0, 1, 1]);
-    assert_eq!([acquire, release, reason], [[1, 0, 0, 0], [0; 4], [0; 4]]);
+    assert_eq!([acquire, release], [[1, 0, 0, 0], [0; 4]]);
+    assert_eq!(others, [[0; 4]; 2]);
 }
 
 #[test]
@@ -1120,11 +1121,11 @@ fn carry_out(
         assert_line(lines.next().expect("a line"), answer, handling, 0, &digest);
     }
     assert_eq!(lines.next(), None);
-    let [transcript, acquire, release, deliver, drain, reason] = tally.handled;
+    let [transcript, acquire, release, deliver, drain, reason, fresh] = tally.handled;
     assert_eq!((deliver, drain), (met.deliveries, met.drains));
     let others: [u64; 4] = std::array::from_fn(|number| acquire[number] + release[number]);
     assert_eq!(others, [met.acquires_and_releases, 0, 0, 0]);
-    assert_eq!([transcript, reason], [[0; 4]; 2]);
+    assert_eq!([transcript, reason, fresh], [[0; 4]; 3]);
     met
 }
 
@@ -1138,7 +1139,7 @@ fn sums(met: &[Met], part: fn(&Met) -> [u64; 4]) -> [u64; 4] {
 fn handlings_of_runs_are_in_lines_digests_and_counts() {
     let carry_out = |seed| {
         let (profile, generator) = (Profile::of_seed(seed), Generator::new(seed));
-        carry_out(random_run, seed, profile, generator, Cluster::new())
+        carry_out(random_run, seed, profile, generator, run_cluster(seed))
     };
     let met: Vec<Met> = (1..=36).chain([698, 851]).map(carry_out).collect();
     assert!(sums(&met, |met| met.deliveries).iter().all(|&n| n > 0));
@@ -1163,7 +1164,7 @@ fn handlings_of_hand_made_states_are_in_lines_digests_and_counts() {
 }
 
 /// What the papers say of the records of a transcript, by kind, and of the whole.
-fn met_by_transcript(bytes: &[u8], met: &mut [[u64; 4]; 6]) -> Handling {
+fn met_by_transcript(bytes: &[u8], met: &mut [[u64; 4]; 7]) -> Handling {
     let mut cluster = Cluster::new();
     let mut last = Handling::None;
     // A transcript that is too long is not run.
@@ -1189,7 +1190,7 @@ fn met_by_transcript(bytes: &[u8], met: &mut [[u64; 4]; 6]) -> Handling {
 fn handlings_of_transcripts_are_counted() {
     let mut nowhere = std::io::sink();
     let mut report = Report::new(&mut nowhere, false);
-    let mut met = [[0; 4]; 6];
+    let mut met = [[0; 4]; 7];
     for seed in 1..=48 {
         let bytes = transcript_bytes(seed);
         let last = met_by_transcript(&bytes, &mut met);

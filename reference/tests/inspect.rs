@@ -25,8 +25,8 @@ const TAKE: [u8; 20] = [
 ];
 
 const TAKE_LINES: &str = r#"
-{"n":1,"kind":"acquire","lock":0,"machine":0,"task":0,"mode":3,"answer":0,"handling":null,"state":{
- "decider":{"mode":0,"machine":null,"incarnation":0},
+{"n":1,"kind":"acquire","lock":0,"machine":0,"task":0,"mode":3,"answer":0,"handling":null,"preference":0,"state":{
+ "decider":{"mode":0,"machine":null,"incarnation":0,"writer":false},
  "agents":[null,null,null,null],
  "clients":[{"status":"waiting","mode":3,
  "reason":{"kind":"ACQUIRE","index":0,"machine":null,"ahead":null}},IDLE,IDLE,IDLE,
@@ -34,8 +34,8 @@ const TAKE_LINES: &str = r#"
  "wire":[{"kind":"ACQUIRE","to":null,"client":0,"mode":3,
  "granted":false,"rejected":false,"agent":null}]},
  "counts":{"agents":0,"marked":0}}
-{"n":2,"kind":"deliver","lock":0,"index":0,"answer":0,"handling":null,"state":{
- "decider":{"mode":3,"machine":0,"incarnation":0},
+{"n":2,"kind":"deliver","lock":0,"index":0,"answer":0,"handling":null,"preference":0,"state":{
+ "decider":{"mode":3,"machine":0,"incarnation":0,"writer":false},
  "agents":[null,null,null,null],
  "clients":[{"status":"waiting","mode":3,
  "reason":{"kind":"GRANT","index":0,"machine":null,"ahead":null}},IDLE,IDLE,IDLE,
@@ -44,8 +44,8 @@ const TAKE_LINES: &str = r#"
  "granted":false,"rejected":false,
  "agent":{"mode":3,"holders":[],"queue":[],"incarnation":0}}]},
  "counts":{"agents":1,"marked":0}}
-{"n":3,"kind":"deliver","lock":0,"index":0,"answer":0,"handling":null,"state":{
- "decider":{"mode":3,"machine":0,"incarnation":0},
+{"n":3,"kind":"deliver","lock":0,"index":0,"answer":0,"handling":null,"preference":0,"state":{
+ "decider":{"mode":3,"machine":0,"incarnation":0,"writer":false},
  "agents":[{"mode":3,"holders":[0],"queue":[],"incarnation":0},null,null,null],
  "clients":[{"status":"holding","mode":3,"reason":null},IDLE,IDLE,IDLE,
  IDLE,IDLE,IDLE,IDLE,IDLE,IDLE,IDLE,IDLE,IDLE,IDLE,IDLE,IDLE],
@@ -60,8 +60,8 @@ const SHARE: [u8; 14] = [
 ];
 
 const SHARE_LINES: &str = r#"
-{"n":4,"kind":"acquire","lock":0,"machine":1,"task":0,"mode":3,"answer":0,"handling":null,"state":{
- "decider":{"mode":3,"machine":0,"incarnation":0},
+{"n":4,"kind":"acquire","lock":0,"machine":1,"task":0,"mode":3,"answer":0,"handling":null,"preference":0,"state":{
+ "decider":{"mode":3,"machine":0,"incarnation":0,"writer":false},
  "agents":[{"mode":3,"holders":[0],"queue":[],"incarnation":0},null,null,null],
  "clients":[{"status":"holding","mode":3,"reason":null},IDLE,IDLE,IDLE,
  {"status":"waiting","mode":3,
@@ -70,8 +70,8 @@ const SHARE_LINES: &str = r#"
  "wire":[{"kind":"ACQUIRE","to":null,"client":4,"mode":3,
  "granted":false,"rejected":false,"agent":null}]},
  "counts":{"agents":1,"marked":0}}
-{"n":5,"kind":"deliver","lock":0,"index":0,"answer":0,"handling":null,"state":{
- "decider":{"mode":3,"machine":0,"incarnation":1},
+{"n":5,"kind":"deliver","lock":0,"index":0,"answer":0,"handling":null,"preference":0,"state":{
+ "decider":{"mode":3,"machine":0,"incarnation":1,"writer":false},
  "agents":[{"mode":3,"holders":[0],"queue":[],"incarnation":0},null,null,null],
  "clients":[{"status":"holding","mode":3,"reason":null},IDLE,IDLE,IDLE,
  {"status":"waiting","mode":3,
@@ -90,19 +90,27 @@ fn unfolded(parts: &[&str]) -> String {
     text.replace("IDLE", IDLE).replace("REST", REST)
 }
 
-fn inspected(bytes: &[u8]) -> String {
+/// The lines with this number for the preference.
+fn inspected_with(preference: u8, bytes: &[u8]) -> String {
     let mut out = Vec::new();
-    inspect(bytes, &mut out).expect("a vector takes every write");
+    inspect(preference, bytes, &mut out).expect("a vector takes every write");
     String::from_utf8(out).expect("JSON is text")
 }
 
+fn inspected(bytes: &[u8]) -> String {
+    inspected_with(0, bytes)
+}
+
 /// Compares line by line, so that a failure shows one line and not all.
-fn assert_lines(bytes: &[u8], parts: &[&str]) {
-    let (found, expected) = (inspected(bytes), unfolded(parts));
+fn assert_same(found: &str, expected: &str) {
     for (found, expected) in found.lines().zip(expected.lines()) {
         assert_eq!(found, expected);
     }
     assert_eq!(found, expected);
+}
+
+fn assert_lines(bytes: &[u8], parts: &[&str]) {
+    assert_same(&inspected(bytes), &unfolded(parts));
 }
 
 fn assert_last_lines(bytes: &[u8], text: &str) {
@@ -119,7 +127,7 @@ fn a_line_in_full() {
     let bytes = [8, 0, 1, 0, 5, 3, 2, 2];
     let expected = concat!(
         r#"{"n":1,"kind":"acquire","lock":5,"machine":3,"task":2,"mode":2,"answer":0,"#,
-        r#""handling":null,"state":{"decider":{"mode":0,"machine":null,"incarnation":0},"#,
+        r#""handling":null,"preference":0,"state":{"decider":{"mode":0,"machine":null,"incarnation":0,"writer":false},"#,
         r#""agents":[null,null,null,null],"clients":["#,
         r#"{"status":"idle","mode":null,"reason":null},{"status":"idle","mode":null,"reason":null},"#,
         r#"{"status":"idle","mode":null,"reason":null},{"status":"idle","mode":null,"reason":null},"#,
@@ -135,7 +143,7 @@ fn a_line_in_full() {
         r#""granted":false,"rejected":false,"agent":null}]},"#,
         r#""counts":{"agents":0,"marked":0}}"#,
         "\n",
-        r#"{"end":"end","answer":0,"records":1,"handling":null,"drains":["#,
+        r#"{"end":"end","answer":0,"records":1,"handling":null,"preference":0,"drains":["#,
         r#"{"lock":0,"answer":0,"count":0,"handling":null},{"lock":1,"answer":0,"count":0,"handling":null},"#,
         r#"{"lock":2,"answer":0,"count":0,"handling":null},{"lock":3,"answer":0,"count":0,"handling":null},"#,
         r#"{"lock":4,"answer":0,"count":0,"handling":null},{"lock":5,"answer":0,"count":4,"handling":null},"#,
@@ -152,8 +160,8 @@ const EXAMPLE_TAIL: [u8; 19] = [
 ];
 
 const EXAMPLE_TAIL_LINES: &str = r#"
-{"n":4,"kind":"release","lock":0,"machine":0,"task":0,"answer":0,"handling":null,"state":{
- "decider":{"mode":3,"machine":0,"incarnation":0},
+{"n":4,"kind":"release","lock":0,"machine":0,"task":0,"answer":0,"handling":null,"preference":0,"state":{
+ "decider":{"mode":3,"machine":0,"incarnation":0,"writer":false},
  "agents":[null,null,null,null],
  "clients":[IDLE,IDLE,IDLE,IDLE,IDLE,IDLE,IDLE,IDLE,
  IDLE,IDLE,IDLE,IDLE,IDLE,IDLE,IDLE,IDLE],
@@ -161,21 +169,21 @@ const EXAMPLE_TAIL_LINES: &str = r#"
  "granted":false,"rejected":false,
  "agent":{"mode":3,"holders":[],"queue":[],"incarnation":0}}]},
  "counts":{"agents":1,"marked":0}}
-{"n":5,"kind":"deliver","lock":0,"index":0,"answer":0,"handling":null,"state":{
- "decider":{"mode":0,"machine":null,"incarnation":0},
+{"n":5,"kind":"deliver","lock":0,"index":0,"answer":0,"handling":null,"preference":0,"state":{
+ "decider":{"mode":0,"machine":null,"incarnation":0,"writer":false},
  "agents":[null,null,null,null],
  "clients":[IDLE,IDLE,IDLE,IDLE,IDLE,IDLE,IDLE,IDLE,
  IDLE,IDLE,IDLE,IDLE,IDLE,IDLE,IDLE,IDLE],
  "wire":[]},
  "counts":{"agents":0,"marked":0}}
-{"n":6,"kind":"deliver","lock":0,"index":0,"answer":8,"handling":null,"state":{
- "decider":{"mode":0,"machine":null,"incarnation":0},
+{"n":6,"kind":"deliver","lock":0,"index":0,"answer":8,"handling":null,"preference":0,"state":{
+ "decider":{"mode":0,"machine":null,"incarnation":0,"writer":false},
  "agents":[null,null,null,null],
  "clients":[IDLE,IDLE,IDLE,IDLE,IDLE,IDLE,IDLE,IDLE,
  IDLE,IDLE,IDLE,IDLE,IDLE,IDLE,IDLE,IDLE],
  "wire":[]},
  "counts":{"agents":0,"marked":0}}
-{"end":"end","answer":0,"records":6,"handling":null,"drains":[{"lock":0,"answer":0,"count":0,"handling":null},REST]}
+{"end":"end","answer":0,"records":6,"handling":null,"preference":0,"drains":[{"lock":0,"answer":0,"count":0,"handling":null},REST]}
 "#;
 
 #[test]
@@ -190,7 +198,7 @@ fn example_listing() {
 #[test]
 fn d2_grant_and_granted_request() {
     let end = r#"
-{"end":"end","answer":0,"records":5,"handling":null,"drains":[
+{"end":"end","answer":0,"records":5,"handling":null,"preference":0,"drains":[
  {"lock":0,"answer":0,"count":7,"handling":"taken"},REST]}
 "#;
     let bytes = [&TAKE[..], &SHARE].concat();
@@ -198,8 +206,8 @@ fn d2_grant_and_granted_request() {
 }
 
 const EARLY_FREE_LINES: &str = r#"
-{"n":6,"kind":"release","lock":0,"machine":0,"task":0,"answer":0,"handling":null,"state":{
- "decider":{"mode":3,"machine":0,"incarnation":1},
+{"n":6,"kind":"release","lock":0,"machine":0,"task":0,"answer":0,"handling":null,"preference":0,"state":{
+ "decider":{"mode":3,"machine":0,"incarnation":1,"writer":false},
  "agents":[null,null,null,null],
  "clients":[IDLE,IDLE,IDLE,IDLE,{"status":"waiting","mode":3,
  "reason":{"kind":"GRANT","index":0,"machine":null,"ahead":null}},IDLE,IDLE,IDLE,
@@ -212,8 +220,8 @@ const EARLY_FREE_LINES: &str = r#"
  "granted":false,"rejected":false,
  "agent":{"mode":3,"holders":[],"queue":[],"incarnation":0}}]},
  "counts":{"agents":1,"marked":1}}
-{"n":7,"kind":"deliver","lock":0,"index":2,"answer":0,"handling":null,"state":{
- "decider":{"mode":3,"machine":0,"incarnation":1},
+{"n":7,"kind":"deliver","lock":0,"index":2,"answer":0,"handling":null,"preference":0,"state":{
+ "decider":{"mode":3,"machine":0,"incarnation":1,"writer":false},
  "agents":[null,null,null,null],
  "clients":[IDLE,IDLE,IDLE,IDLE,{"status":"waiting","mode":3,
  "reason":{"kind":"GRANT","index":0,"machine":null,"ahead":null}},IDLE,IDLE,IDLE,
@@ -226,7 +234,7 @@ const EARLY_FREE_LINES: &str = r#"
  "granted":false,"rejected":true,
  "agent":{"mode":3,"holders":[],"queue":[],"incarnation":0}}]},
  "counts":{"agents":1,"marked":1}}
-{"end":"end","answer":0,"records":7,"handling":null,"drains":[
+{"end":"end","answer":0,"records":7,"handling":null,"preference":0,"drains":[
  {"lock":0,"answer":0,"count":9,"handling":"taken"},REST]}
 "#;
 
@@ -244,8 +252,8 @@ fn d3_rejected_free() {
 }
 
 const TWO_HOLDERS_LINES: &str = r#"
-{"n":6,"kind":"deliver","lock":0,"index":0,"answer":0,"handling":null,"state":{
- "decider":{"mode":3,"machine":0,"incarnation":1},
+{"n":6,"kind":"deliver","lock":0,"index":0,"answer":0,"handling":null,"preference":0,"state":{
+ "decider":{"mode":3,"machine":0,"incarnation":1,"writer":false},
  "agents":[{"mode":3,"holders":[0],"queue":[],"incarnation":0},null,null,null],
  "clients":[{"status":"holding","mode":3,"reason":null},IDLE,IDLE,IDLE,
  {"status":"holding","mode":3,"reason":null},IDLE,IDLE,IDLE,
@@ -253,23 +261,23 @@ const TWO_HOLDERS_LINES: &str = r#"
  "wire":[{"kind":"ACQUIRE","to":0,"client":4,"mode":3,
  "granted":true,"rejected":false,"agent":null}]},
  "counts":{"agents":1,"marked":1}}
-{"n":7,"kind":"deliver","lock":0,"index":0,"answer":0,"handling":"taken","state":{
- "decider":{"mode":3,"machine":0,"incarnation":1},
+{"n":7,"kind":"deliver","lock":0,"index":0,"answer":0,"handling":"taken","preference":0,"state":{
+ "decider":{"mode":3,"machine":0,"incarnation":1,"writer":false},
  "agents":[{"mode":3,"holders":[0,4],"queue":[],"incarnation":1},null,null,null],
  "clients":[{"status":"holding","mode":3,"reason":null},IDLE,IDLE,IDLE,
  {"status":"holding","mode":3,"reason":null},IDLE,IDLE,IDLE,
  IDLE,IDLE,IDLE,IDLE,IDLE,IDLE,IDLE,IDLE],
  "wire":[]},
  "counts":{"agents":1,"marked":0}}
-{"n":8,"kind":"release","lock":0,"machine":1,"task":0,"answer":0,"handling":null,"state":{
- "decider":{"mode":3,"machine":0,"incarnation":1},
+{"n":8,"kind":"release","lock":0,"machine":1,"task":0,"answer":0,"handling":null,"preference":0,"state":{
+ "decider":{"mode":3,"machine":0,"incarnation":1,"writer":false},
  "agents":[{"mode":3,"holders":[0,4],"queue":[],"incarnation":1},null,null,null],
  "clients":[{"status":"holding","mode":3,"reason":null},IDLE,IDLE,IDLE,IDLE,IDLE,IDLE,IDLE,
  IDLE,IDLE,IDLE,IDLE,IDLE,IDLE,IDLE,IDLE],
  "wire":[{"kind":"RELEASE","to":null,"client":4,"mode":null,
  "granted":false,"rejected":false,"agent":null}]},
  "counts":{"agents":1,"marked":0}}
-{"end":"end","answer":0,"records":8,"handling":"taken","drains":[
+{"end":"end","answer":0,"records":8,"handling":"taken","preference":0,"drains":[
  {"lock":0,"answer":0,"count":4,"handling":"taken"},REST]}
 "#;
 
@@ -286,8 +294,8 @@ fn two_holders_and_a_release() {
 }
 
 const REJECTED_GRANT_LINES: &str = r#"
-{"n":10,"kind":"deliver","lock":0,"index":2,"answer":0,"handling":null,"state":{
- "decider":{"mode":3,"machine":0,"incarnation":1},
+{"n":10,"kind":"deliver","lock":0,"index":2,"answer":0,"handling":null,"preference":0,"state":{
+ "decider":{"mode":3,"machine":0,"incarnation":1,"writer":false},
  "agents":[null,null,null,null],
  "clients":[IDLE,IDLE,IDLE,IDLE,{"status":"waiting","mode":3,
  "reason":{"kind":"GRANT","index":0,"machine":null,"ahead":null}},IDLE,IDLE,IDLE,
@@ -301,8 +309,8 @@ const REJECTED_GRANT_LINES: &str = r#"
  "granted":false,"rejected":true,
  "agent":{"mode":3,"holders":[],"queue":[],"incarnation":0}}]},
  "counts":{"agents":1,"marked":1}}
-{"n":11,"kind":"deliver","lock":0,"index":2,"answer":0,"handling":null,"state":{
- "decider":{"mode":3,"machine":0,"incarnation":1},
+{"n":11,"kind":"deliver","lock":0,"index":2,"answer":0,"handling":null,"preference":0,"state":{
+ "decider":{"mode":3,"machine":0,"incarnation":1,"writer":false},
  "agents":[{"mode":3,"holders":[],"queue":[{"client":8,"mode":2}],"incarnation":0},
  null,null,null],
  "clients":[IDLE,IDLE,IDLE,IDLE,{"status":"waiting","mode":3,
@@ -314,7 +322,7 @@ const REJECTED_GRANT_LINES: &str = r#"
  {"kind":"ACQUIRE","to":0,"client":4,"mode":3,
  "granted":true,"rejected":false,"agent":null}]},
  "counts":{"agents":1,"marked":1}}
-{"end":"end","answer":0,"records":11,"handling":"taken","drains":[
+{"end":"end","answer":0,"records":11,"handling":"taken","preference":0,"drains":[
  {"lock":0,"answer":0,"count":9,"handling":"taken"},REST]}
 "#;
 
@@ -336,8 +344,8 @@ fn rejected_grant() {
 }
 
 const QUEUE_LINES: &str = r#"
-{"n":7,"kind":"deliver","lock":0,"index":0,"answer":0,"handling":"taken","state":{
- "decider":{"mode":2,"machine":0,"incarnation":0},
+{"n":7,"kind":"deliver","lock":0,"index":0,"answer":0,"handling":"taken","preference":0,"state":{
+ "decider":{"mode":2,"machine":0,"incarnation":0,"writer":false},
  "agents":[{"mode":2,"holders":[0],
  "queue":[{"client":1,"mode":3},{"client":8,"mode":2}],"incarnation":0},null,null,null],
  "clients":[{"status":"holding","mode":2,"reason":null},{"status":"waiting","mode":3,
@@ -347,8 +355,8 @@ const QUEUE_LINES: &str = r#"
  IDLE,IDLE,IDLE,IDLE],
  "wire":[]},
  "counts":{"agents":1,"marked":0}}
-{"n":8,"kind":"release","lock":0,"machine":0,"task":0,"answer":0,"handling":null,"state":{
- "decider":{"mode":2,"machine":0,"incarnation":0},
+{"n":8,"kind":"release","lock":0,"machine":0,"task":0,"answer":0,"handling":null,"preference":0,"state":{
+ "decider":{"mode":2,"machine":0,"incarnation":0,"writer":false},
  "agents":[null,null,null,null],
  "clients":[IDLE,{"status":"waiting","mode":3,
  "reason":{"kind":"GRANT","index":0,"machine":null,"ahead":null}},IDLE,IDLE,
@@ -359,7 +367,7 @@ const QUEUE_LINES: &str = r#"
  "granted":false,"rejected":false,
  "agent":{"mode":2,"holders":[],"queue":[{"client":8,"mode":2}],"incarnation":0}}]},
  "counts":{"agents":1,"marked":0}}
-{"end":"end","answer":0,"records":8,"handling":"taken","drains":[
+{"end":"end","answer":0,"records":8,"handling":"taken","preference":0,"drains":[
  {"lock":0,"answer":0,"count":7,"handling":null},REST]}
 "#;
 
@@ -382,8 +390,8 @@ fn queue_with_two_waiters() {
 }
 
 const AWAY_FROM_ZERO_LINES: &str = r#"
-{"n":9,"kind":"release","lock":0,"machine":3,"task":0,"answer":0,"handling":null,"state":{
- "decider":{"mode":2,"machine":3,"incarnation":0},
+{"n":9,"kind":"release","lock":0,"machine":3,"task":0,"answer":0,"handling":null,"preference":0,"state":{
+ "decider":{"mode":2,"machine":3,"incarnation":0,"writer":false},
  "agents":[null,null,null,null],
  "clients":[IDLE,IDLE,IDLE,IDLE,
  {"status":"waiting","mode":3,
@@ -406,7 +414,7 @@ const AWAY_FROM_ZERO_LINES: &str = r#"
  "agent":{"mode":2,"holders":[],
  "queue":[{"client":14,"mode":3},{"client":15,"mode":2}],"incarnation":0}}]},
  "counts":{"agents":1,"marked":0}}
-{"end":"end","answer":0,"records":9,"handling":null,"drains":[
+{"end":"end","answer":0,"records":9,"handling":null,"preference":0,"drains":[
  {"lock":0,"answer":0,"count":24,"handling":"taken"},REST]}
 "#;
 
@@ -446,17 +454,17 @@ fn lock_out_of_range_has_no_state() {
         6, 0, 3, 0, 9, 40,
     ];
     let lines = r#"
-{"n":1,"kind":"acquire","lock":8,"machine":4,"task":5,"mode":1,"answer":1,"handling":null,"state":null,"counts":null}
-{"n":2,"kind":"release","lock":255,"machine":0,"task":6,"answer":1,"handling":null,"state":null,"counts":null}
-{"n":3,"kind":"deliver","lock":9,"index":40,"answer":1,"handling":null,"state":null,"counts":null}
-{"end":"end","answer":0,"records":3,"handling":null,"drains":[{"lock":0,"answer":0,"count":0,"handling":null},REST]}
+{"n":1,"kind":"acquire","lock":8,"machine":4,"task":5,"mode":1,"answer":1,"handling":null,"preference":0,"state":null,"counts":null}
+{"n":2,"kind":"release","lock":255,"machine":0,"task":6,"answer":1,"handling":null,"preference":0,"state":null,"counts":null}
+{"n":3,"kind":"deliver","lock":9,"index":40,"answer":1,"handling":null,"preference":0,"state":null,"counts":null}
+{"end":"end","answer":0,"records":3,"handling":null,"preference":0,"drains":[{"lock":0,"answer":0,"count":0,"handling":null},REST]}
 "#;
     assert_lines(&bytes, &[lines]);
 }
 
 const REFUSED_LINES: &str = r#"
-{"n":2,"kind":"acquire","lock":7,"machine":0,"task":0,"mode":2,"answer":5,"handling":null,"state":{
- "decider":{"mode":0,"machine":null,"incarnation":0},
+{"n":2,"kind":"acquire","lock":7,"machine":0,"task":0,"mode":2,"answer":5,"handling":null,"preference":0,"state":{
+ "decider":{"mode":0,"machine":null,"incarnation":0,"writer":false},
  "agents":[null,null,null,null],
  "clients":[{"status":"waiting","mode":3,
  "reason":{"kind":"ACQUIRE","index":0,"machine":null,"ahead":null}},IDLE,IDLE,IDLE,
@@ -464,8 +472,8 @@ const REFUSED_LINES: &str = r#"
  "wire":[{"kind":"ACQUIRE","to":null,"client":0,"mode":3,
  "granted":false,"rejected":false,"agent":null}]},
  "counts":{"agents":0,"marked":0}}
-{"n":3,"kind":"release","lock":7,"machine":4,"task":9,"answer":2,"handling":null,"state":{
- "decider":{"mode":0,"machine":null,"incarnation":0},
+{"n":3,"kind":"release","lock":7,"machine":4,"task":9,"answer":2,"handling":null,"preference":0,"state":{
+ "decider":{"mode":0,"machine":null,"incarnation":0,"writer":false},
  "agents":[null,null,null,null],
  "clients":[{"status":"waiting","mode":3,
  "reason":{"kind":"ACQUIRE","index":0,"machine":null,"ahead":null}},IDLE,IDLE,IDLE,
@@ -473,7 +481,7 @@ const REFUSED_LINES: &str = r#"
  "wire":[{"kind":"ACQUIRE","to":null,"client":0,"mode":3,
  "granted":false,"rejected":false,"agent":null}]},
  "counts":{"agents":0,"marked":0}}
-{"end":"end","answer":0,"records":3,"handling":null,"drains":[
+{"end":"end","answer":0,"records":3,"handling":null,"preference":0,"drains":[
  {"lock":0,"answer":0,"count":0,"handling":null},{"lock":1,"answer":0,"count":0,"handling":null},
  {"lock":2,"answer":0,"count":0,"handling":null},{"lock":3,"answer":0,"count":0,"handling":null},
  {"lock":4,"answer":0,"count":0,"handling":null},{"lock":5,"answer":0,"count":0,"handling":null},
@@ -497,14 +505,14 @@ fn bad_record_ends_the_lines() {
     let bad = [6, 0, 4, 0, 0, 0];
     let behind = [7, 0, 2, 0, 0, 0, 0];
     let end = r#"
-{"end":"bad record","answer":12,"records":4,"handling":null,"drains":[{"lock":0,"answer":0,"count":2,"handling":null},REST]}
+{"end":"bad record","answer":12,"records":4,"handling":null,"preference":0,"drains":[{"lock":0,"answer":0,"count":2,"handling":null},REST]}
 "#;
     let bytes = [&TAKE[..], &bad, &behind].concat();
     assert_lines(&bytes, &[TAKE_LINES, end]);
 }
 
 const TOO_LONG: &str = r#"
-{"end":"too long","answer":13,"records":0,"handling":null,"drains":[{"lock":0,"answer":0,"count":0,"handling":null},REST]}
+{"end":"too long","answer":13,"records":0,"handling":null,"preference":0,"drains":[{"lock":0,"answer":0,"count":0,"handling":null},REST]}
 "#;
 
 /// 8,192 acquires, of 8 bytes each.
@@ -526,7 +534,7 @@ fn longest_transcript_is_run() {
     bytes.extend([7, 0, 2, 0, 0, 0, 0]);
     assert_eq!(bytes.len(), 65_535);
     let end = r#"
-{"end":"end","answer":0,"records":8192,"handling":null,"drains":[{"lock":0,"answer":0,"count":4,"handling":null},REST]}
+{"end":"end","answer":0,"records":8192,"handling":null,"preference":0,"drains":[{"lock":0,"answer":0,"count":4,"handling":null},REST]}
 "#;
     assert_last_lines(&bytes, end);
     assert_eq!(inspected(&bytes).lines().count(), 8_193);
@@ -535,7 +543,7 @@ fn longest_transcript_is_run() {
 #[test]
 fn empty_transcript() {
     let end = r#"
-{"end":"end","answer":0,"records":0,"handling":null,"drains":[{"lock":0,"answer":0,"count":0,"handling":null},REST]}
+{"end":"end","answer":0,"records":0,"handling":null,"preference":0,"drains":[{"lock":0,"answer":0,"count":0,"handling":null},REST]}
 "#;
     assert_lines(&[], &[end]);
 }
@@ -546,7 +554,8 @@ fn handlings_of_records(bytes: &[u8]) -> Vec<String> {
     let records = text.lines().filter(|line| line.starts_with(r#"{"n":"#));
     let field = |line: &str| {
         let (before, rest) = line.split_once(r#","handling":"#).expect("a handling");
-        let (handling, _) = rest.split_once(r#","state":"#).expect("a state");
+        let end = r#","preference":0,"state":"#;
+        let (handling, _) = rest.split_once(end).expect("a preference and a state");
         let digits = before.trim_end_matches(|c: char| c.is_ascii_digit());
         assert!(digits.ends_with(r#","answer":"#), "{line}");
         String::from(handling)
@@ -582,12 +591,12 @@ fn handlings_of_a_release_that_comes_early() {
     (expected[8], expected[10], expected[12]) = (NOT_A_HOLDER, TAKEN, TAKEN);
     assert_eq!(handlings_of_records(&bytes), expected);
     let end = r#"
-{"end":"end","answer":0,"records":14,"handling":"taken","drains":[
+{"end":"end","answer":0,"records":14,"handling":"taken","preference":0,"drains":[
  {"lock":0,"answer":0,"count":8,"handling":"taken"},REST]}
 "#;
     assert_last_lines(&bytes, end);
     let end = r#"
-{"end":"end","answer":0,"records":10,"handling":"not a holder","drains":[
+{"end":"end","answer":0,"records":10,"handling":"not a holder","preference":0,"drains":[
  {"lock":0,"answer":0,"count":5,"handling":"taken"},REST]}
 "#;
     assert_last_lines(&bytes[..67], end);
@@ -611,7 +620,7 @@ fn handling_before_a_bad_record_is_given() {
     let expected = ["null", "null", "null", "null", NO_AGENT];
     assert_eq!(handlings_of_records(&bytes), expected);
     let end = r#"
-{"end":"bad record","answer":12,"records":6,"handling":"no agent","drains":[
+{"end":"bad record","answer":12,"records":6,"handling":"no agent","preference":0,"drains":[
  {"lock":0,"answer":0,"count":8,"handling":"taken"},REST]}
 "#;
     assert_last_lines(&bytes, end);
@@ -628,7 +637,7 @@ fn handling_is_given_at_the_end() {
     let expected = ["null", "null", "null", "null", NO_AGENT, "null", "null"];
     assert_eq!(handlings_of_records(&bytes), expected);
     let end = r#"
-{"end":"end","answer":0,"records":7,"handling":"no agent","drains":[
+{"end":"end","answer":0,"records":7,"handling":"no agent","preference":0,"drains":[
  {"lock":0,"answer":0,"count":7,"handling":"taken"},REST]}
 "#;
     assert_last_lines(&bytes, end);
@@ -657,16 +666,174 @@ fn drain_may_end_with_no_agent() {
     ];
     assert_eq!(handlings_of_records(&bytes), ["null"; 6]);
     let end = r#"
-{"end":"end","answer":0,"records":6,"handling":null,"drains":[
+{"end":"end","answer":0,"records":6,"handling":null,"preference":0,"drains":[
  {"lock":0,"answer":0,"count":6,"handling":"no agent"},REST]}
 "#;
     assert_last_lines(&bytes, end);
 }
 
+/// After `TAKE`: 1/0 wants to write and is queued; 0/1 and 2/0 want to read.
+const BEHIND: [u8; 42] = [
+    8, 0, 1, 0, 0, 1, 0, 2, //
+    6, 0, 3, 0, 0, 0, //
+    6, 0, 3, 0, 0, 0, //
+    8, 0, 1, 0, 0, 0, 1, 3, //
+    8, 0, 1, 0, 0, 2, 0, 3, //
+    6, 0, 3, 0, 0, 0,
+];
+
+const BEHIND_LINES: &str = r#"
+{"n":4,"kind":"acquire","lock":0,"machine":1,"task":0,"mode":2,"answer":0,"handling":null,"preference":1,"state":{
+ "decider":{"mode":3,"machine":0,"incarnation":0,"writer":false},
+ "agents":[{"mode":3,"holders":[0],"queue":[],"incarnation":0},null,null,null],
+ "clients":[{"status":"holding","mode":3,"reason":null},IDLE,IDLE,IDLE,
+ {"status":"waiting","mode":2,
+ "reason":{"kind":"ACQUIRE","index":0,"machine":null,"ahead":null}},IDLE,IDLE,IDLE,
+ IDLE,IDLE,IDLE,IDLE,IDLE,IDLE,IDLE,IDLE],
+ "wire":[{"kind":"ACQUIRE","to":null,"client":4,"mode":2,
+ "granted":false,"rejected":false,"agent":null}]},
+ "counts":{"agents":1,"marked":0}}
+{"n":5,"kind":"deliver","lock":0,"index":0,"answer":0,"handling":null,"preference":1,"state":{
+ "decider":{"mode":3,"machine":0,"incarnation":0,"writer":true},
+ "agents":[{"mode":3,"holders":[0],"queue":[],"incarnation":0},null,null,null],
+ "clients":[{"status":"holding","mode":3,"reason":null},IDLE,IDLE,IDLE,
+ {"status":"waiting","mode":2,
+ "reason":{"kind":"ACQUIRE","index":0,"machine":null,"ahead":null}},IDLE,IDLE,IDLE,
+ IDLE,IDLE,IDLE,IDLE,IDLE,IDLE,IDLE,IDLE],
+ "wire":[{"kind":"ACQUIRE","to":0,"client":4,"mode":2,
+ "granted":false,"rejected":false,"agent":null}]},
+ "counts":{"agents":1,"marked":0}}
+{"n":6,"kind":"deliver","lock":0,"index":0,"answer":0,"handling":"taken","preference":1,"state":{
+ "decider":{"mode":3,"machine":0,"incarnation":0,"writer":true},
+ "agents":[{"mode":3,"holders":[0],"queue":[{"client":4,"mode":2}],"incarnation":0},
+ null,null,null],
+ "clients":[{"status":"holding","mode":3,"reason":null},IDLE,IDLE,IDLE,
+ {"status":"waiting","mode":2,
+ "reason":{"kind":"queue","index":null,"machine":0,"ahead":0}},IDLE,IDLE,IDLE,
+ IDLE,IDLE,IDLE,IDLE,IDLE,IDLE,IDLE,IDLE],
+ "wire":[]},
+ "counts":{"agents":1,"marked":0}}
+{"n":7,"kind":"acquire","lock":0,"machine":0,"task":1,"mode":3,"answer":0,"handling":null,"preference":1,"state":{
+ "decider":{"mode":3,"machine":0,"incarnation":0,"writer":true},
+ "agents":[{"mode":3,"holders":[0],
+ "queue":[{"client":4,"mode":2},{"client":1,"mode":3}],"incarnation":0},null,null,null],
+ "clients":[{"status":"holding","mode":3,"reason":null},{"status":"waiting","mode":3,
+ "reason":{"kind":"queue","index":null,"machine":0,"ahead":1}},IDLE,IDLE,
+ {"status":"waiting","mode":2,
+ "reason":{"kind":"queue","index":null,"machine":0,"ahead":0}},IDLE,IDLE,IDLE,
+ IDLE,IDLE,IDLE,IDLE,IDLE,IDLE,IDLE,IDLE],
+ "wire":[]},
+ "counts":{"agents":1,"marked":0}}
+{"n":8,"kind":"acquire","lock":0,"machine":2,"task":0,"mode":3,"answer":0,"handling":null,"preference":1,"state":{
+ "decider":{"mode":3,"machine":0,"incarnation":0,"writer":true},
+ "agents":[{"mode":3,"holders":[0],
+ "queue":[{"client":4,"mode":2},{"client":1,"mode":3}],"incarnation":0},null,null,null],
+ "clients":[{"status":"holding","mode":3,"reason":null},{"status":"waiting","mode":3,
+ "reason":{"kind":"queue","index":null,"machine":0,"ahead":1}},IDLE,IDLE,
+ {"status":"waiting","mode":2,
+ "reason":{"kind":"queue","index":null,"machine":0,"ahead":0}},IDLE,IDLE,IDLE,
+ {"status":"waiting","mode":3,
+ "reason":{"kind":"ACQUIRE","index":0,"machine":null,"ahead":null}},IDLE,IDLE,IDLE,
+ IDLE,IDLE,IDLE,IDLE],
+ "wire":[{"kind":"ACQUIRE","to":null,"client":8,"mode":3,
+ "granted":false,"rejected":false,"agent":null}]},
+ "counts":{"agents":1,"marked":0}}
+{"n":9,"kind":"deliver","lock":0,"index":0,"answer":0,"handling":null,"preference":1,"state":{
+ "decider":{"mode":3,"machine":0,"incarnation":0,"writer":true},
+ "agents":[{"mode":3,"holders":[0],
+ "queue":[{"client":4,"mode":2},{"client":1,"mode":3}],"incarnation":0},null,null,null],
+ "clients":[{"status":"holding","mode":3,"reason":null},{"status":"waiting","mode":3,
+ "reason":{"kind":"queue","index":null,"machine":0,"ahead":1}},IDLE,IDLE,
+ {"status":"waiting","mode":2,
+ "reason":{"kind":"queue","index":null,"machine":0,"ahead":0}},IDLE,IDLE,IDLE,
+ {"status":"waiting","mode":3,
+ "reason":{"kind":"ACQUIRE","index":0,"machine":null,"ahead":null}},IDLE,IDLE,IDLE,
+ IDLE,IDLE,IDLE,IDLE],
+ "wire":[{"kind":"ACQUIRE","to":0,"client":8,"mode":3,
+ "granted":false,"rejected":false,"agent":null}]},
+ "counts":{"agents":1,"marked":0}}
+{"end":"end","answer":0,"records":9,"handling":"taken","preference":1,"drains":[
+ {"lock":0,"answer":0,"count":14,"handling":"taken"},REST]}
+"#;
+
+/// The lines of the transcript with the writers' preference.
+fn behind_lines() -> String {
+    let take = TAKE_LINES.replace(r#""preference":0"#, r#""preference":1"#);
+    unfolded(&[&take, BEHIND_LINES])
+}
+
+/// The drain queues 2/0 (1); 0/0 releases and 1/0 gets the agent (3), 1/0 releases and 0/1 gets it (3), with a GRANT for 2/0 (2);
+/// 0/1 releases (1), 2/0 does (3), and the FREE ends it.
+#[test]
+fn writers_preference() {
+    let bytes = [&TAKE[..], &BEHIND].concat();
+    assert_same(&inspected_with(1, &bytes), &behind_lines());
+}
+
+/// 0/1 joins, and the decider grants 2/0. The drain shows the GRANT and lists 2/0 (2); 0/0 and 0/1 release (2), 2/0 does (3);
+/// 1/0 gets the agent (2) and releases (1), and the FREE ends it.
+#[test]
+fn readers_preference_of_the_same_transcript() {
+    let bytes = [&TAKE[..], &BEHIND].concat();
+    let lines = r#"
+{"n":9,"kind":"deliver","lock":0,"index":0,"answer":0,"handling":null,"preference":0,"state":{
+ "decider":{"mode":3,"machine":0,"incarnation":1,"writer":false},
+ "agents":[{"mode":3,"holders":[0,1],"queue":[{"client":4,"mode":2}],"incarnation":0},
+ null,null,null],
+ "clients":[{"status":"holding","mode":3,"reason":null},
+ {"status":"holding","mode":3,"reason":null},IDLE,IDLE,
+ {"status":"waiting","mode":2,
+ "reason":{"kind":"queue","index":null,"machine":0,"ahead":0}},IDLE,IDLE,IDLE,
+ {"status":"waiting","mode":3,
+ "reason":{"kind":"GRANT","index":0,"machine":null,"ahead":null}},IDLE,IDLE,IDLE,
+ IDLE,IDLE,IDLE,IDLE],
+ "wire":[{"kind":"GRANT","to":2,"client":8,"mode":3,
+ "granted":false,"rejected":false,"agent":null},
+ {"kind":"ACQUIRE","to":0,"client":8,"mode":3,
+ "granted":true,"rejected":false,"agent":null}]},
+ "counts":{"agents":1,"marked":1}}
+{"end":"end","answer":0,"records":9,"handling":"taken","preference":0,"drains":[
+ {"lock":0,"answer":0,"count":11,"handling":"taken"},REST]}
+"#;
+    assert_last_lines(&bytes, lines);
+    let text = inspected(&bytes);
+    assert!(!text.contains(r#""writer":true"#) && !text.contains(r#""preference":1"#));
+}
+
+/// Whatever the records are, the preference stays on each line, that of a lock out of range too.
+#[test]
+fn preference_is_on_every_line() {
+    let bytes = [6, 0, 3, 0, 9, 40, 6, 0, 4, 0, 0, 0];
+    let lines = r#"
+{"n":1,"kind":"deliver","lock":9,"index":40,"answer":1,"handling":null,"preference":1,"state":null,"counts":null}
+{"end":"bad record","answer":12,"records":2,"handling":null,"preference":1,"drains":[{"lock":0,"answer":0,"count":0,"handling":null},REST]}
+"#;
+    assert_same(&inspected_with(1, &bytes), &unfolded(&[lines]));
+    let too_long = TOO_LONG.replace(r#""preference":0"#, r#""preference":1"#);
+    assert_same(&inspected_with(1, &overlong()), &unfolded(&[&too_long]));
+}
+
+const BAD_PREFERENCE: &str = r#"
+{"end":"bad preference","answer":16,"records":0,"handling":null,"preference":0,"drains":[{"lock":0,"answer":0,"count":0,"handling":null},REST]}
+"#;
+
+/// No record is run, and neither a bad one nor too many bytes are noticed.
+#[test]
+fn bad_preference() {
+    let behind = [&TAKE[..], &BEHIND].concat();
+    for preference in [2, 3, 128, 255] {
+        for bytes in [&[][..], &behind, &[6, 0, 4, 0, 0, 0], &overlong()] {
+            let found = inspected_with(preference, bytes);
+            assert_same(&found, &unfolded(&[BAD_PREFERENCE]));
+        }
+    }
+}
+
 /// What the program writes for a transcript on its standard input.
-fn written_by_program(bytes: &[u8]) -> String {
+fn written_by_program(preference: &[&str], bytes: &[u8]) -> String {
     let mut child = Command::new(env!("CARGO_BIN_EXE_reference"))
         .arg("inspect")
+        .args(preference)
         .stdin(Stdio::piped())
         .stdout(Stdio::piped())
         .spawn()
@@ -683,6 +850,52 @@ fn written_by_program(bytes: &[u8]) -> String {
 fn program_reads_standard_input() {
     let bytes = [&TAKE[..], &EXAMPLE_TAIL].concat();
     let expected = unfolded(&[TAKE_LINES, EXAMPLE_TAIL_LINES]);
-    assert_eq!(written_by_program(&bytes), expected);
-    assert_eq!(written_by_program(&overlong()), unfolded(&[TOO_LONG]));
+    assert_same(&written_by_program(&[], &bytes), &expected);
+    let too_long = unfolded(&[TOO_LONG]);
+    assert_same(&written_by_program(&[], &overlong()), &too_long);
+}
+
+/// A decimal number, of any length; what is none, or above 255, is 255. Further arguments are not looked at.
+#[test]
+fn program_takes_the_preference() {
+    let bytes = [&TAKE[..], &BEHIND].concat();
+    let readers = inspected(&bytes);
+    for words in [&[][..], &["0"], &["000"], &["0", "1"]] {
+        assert_same(&written_by_program(words, &bytes), &readers);
+    }
+    let long = format!("{}1", "0".repeat(300));
+    for words in [&["1"][..], &["01"], &[&long], &["1", "2"], &["1", "-", "x"]] {
+        assert_same(&written_by_program(words, &bytes), &behind_lines());
+    }
+    let bad = unfolded(&[BAD_PREFERENCE]);
+    let words = [
+        "2",
+        "9",
+        "10",
+        "11",
+        "255",
+        "256",
+        "257",
+        "65537",
+        "4294967297",
+        "18446744073709551616",
+        "18446744073709551617",
+        "",
+        " ",
+        " 1",
+        "1 ",
+        "x",
+        "1x",
+        "0x1",
+        "-1",
+        "-0",
+        "+1",
+        "1.0",
+        "--preference",
+    ];
+    for word in words {
+        assert_same(&written_by_program(&[word], &bytes), &bad);
+    }
+    assert_same(&written_by_program(&["2", "1"], &bytes), &bad);
+    assert_same(&written_by_program(&["2"], &overlong()), &bad);
 }

@@ -243,7 +243,8 @@ fn rejected_agent_keeps_the_reader_behind_the_writer() {
     assert_eq!(cluster, Cluster::new());
 }
 
-/// Document 02, §3, is about those in the queue: who asks later for a shared lock still gets it at once.
+/// Document 02, §3, is about those in the queue: with the readers' preference who asks later for a shared lock still gets it at
+/// once.
 #[test]
 fn later_readers_do_not_queue() {
     let mut cluster = d12();
@@ -532,7 +533,7 @@ fn assert_all_tested(tally: &Tally, met: &[[Met; 2]]) {
 fn every_installation_of_a_run_is_tested() {
     let met = |seed| {
         let (profile, generator) = (Profile::of_seed(seed), Generator::new(seed));
-        met_by_run(seed, profile, generator, Cluster::new())
+        met_by_run(seed, profile, generator, run_cluster(seed))
     };
     let met: Vec<[Met; 2]> = (1..=36).map(met).collect();
     assert_all_tested(&tally_of(random_run, 1..=36), &met);

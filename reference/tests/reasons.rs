@@ -188,7 +188,7 @@ fn queue_stands_on_a_machine_and_in_a_packet() {
 #[test]
 fn d12_reasons_of_all_three() {
     let (a, b, c) = (on_machine(0, 0), on_machine(0, 1), on_machine(0, 2));
-    assert_reasons(&d12_queue(), &[(4, a), (8, b), (12, c)]);
+    assert_reasons(&d12_queue(READERS), &[(4, a), (8, b), (12, c)]);
     let mut cluster = d12();
     assert_reasons(&cluster, &[(8, on_machine(1, 0)), (12, on_machine(1, 1))]);
     accepted(&[release(&mut cluster, 1, 0)]);
@@ -644,7 +644,7 @@ fn asks_are_counted() {
     assert_eq!(tally.tested_waits, 0);
     let tally = tally_of(random_transcript, 4..8);
     assert!(tally.tested_waits > 0);
-    assert_eq!(tally.answers[5], [0; 16]);
+    assert_eq!(tally.answers[5], [0; 17]);
 }
 
 /// What the list of all reasons says must be given: the first by kind, then by index or machine.
@@ -754,12 +754,12 @@ fn expected_numbers(cluster: &Cluster, lock: LockId, machine: MachineId, task: T
     }
 }
 
-/// The first seeds have all nine profiles, with drains that are kept and drains that are not.
+/// The first seeds have all nine profiles, with drains that are kept and drains that are not, and both preferences.
 #[test]
 fn asks_of_runs_are_in_lines_and_digests() {
     for seed in (1..=9).chain([16, 17, 25, 31]) {
         let (profile, generator) = (Profile::of_seed(seed), Generator::new(seed));
-        assert_asks(random_run, seed, profile, generator, Cluster::new());
+        assert_asks(random_run, seed, profile, generator, run_cluster(seed));
     }
 }
 

@@ -19,6 +19,7 @@ fn owned(mode: Mode) -> Cluster {
     cluster.locks[0].decider = Decider {
         owner: Some(Owner { mode, machine }),
         incarnation: 0,
+        writer_waits: false,
     };
     cluster
 }
@@ -325,6 +326,7 @@ fn check_calls(seed: u64, profile: Profile, mut generator: Generator, mut cluste
         let given = cluster.clone();
         let outcome = call.perform(&mut cluster);
         assert_eq!(cluster.is_well_formed(), well_formed);
+        assert_eq!(cluster.preference, given.preference);
         assert_eq!(answer_number(&outcome) == 11, !well_formed);
         let changed = (0..8).filter(|&lock| cluster.locks[lock] != given.locks[lock]);
         let changed: Vec<usize> = changed.collect();
@@ -339,7 +341,9 @@ fn check_calls(seed: u64, profile: Profile, mut generator: Generator, mut cluste
 fn random_calls_keep_the_bounds() {
     for seed in 1..=45 {
         let profile = Profile::of_seed(seed);
-        check_calls(seed, profile, Generator::new(seed), Cluster::new());
+        for preference in BOTH {
+            check_calls(seed, profile, Generator::new(seed), fresh(preference));
+        }
     }
     for seed in 1..=200 {
         let mut generator = Generator::new(seed);
@@ -349,12 +353,12 @@ fn random_calls_keep_the_bounds() {
 }
 
 /// Whatever calls a fresh cluster has had, its drains are accepted and leave it
-/// quiescent (document 01, 'Runs, waits and holds').
+/// quiescent (document 01, 'Runs, waits and holds'), whoever is preferred.
 #[test]
 fn drain_after_any_list_of_calls_ends() {
-    for seed in 1..=45 {
+    for (seed, preference) in (1..=45).flat_map(|seed| BOTH.map(|of| (seed, of))) {
         let mut generator = Generator::new(seed);
-        let mut cluster = Cluster::new();
+        let mut cluster = fresh(preference);
         for _ in 0..200 {
             let profile = Profile::of_seed(seed);
             let call = profile.choose_call(seed, &generator.eight(), &cluster);
@@ -364,6 +368,6 @@ fn drain_after_any_list_of_calls_ends() {
             assert!(cluster.drain(LockId(lock)).is_ok());
             assert!(cluster.locks[usize::from(lock)].is_quiescent());
         }
-        assert_eq!(cluster, Cluster::new());
+        assert_eq!(cluster, fresh(preference));
     }
 }

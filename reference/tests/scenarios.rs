@@ -14,6 +14,7 @@ fn owned(mode: Mode, machine: u8, incarnation: u8) -> Decider {
     Decider {
         owner: Some(Owner { mode, machine }),
         incarnation,
+        writer_waits: false,
     }
 }
 

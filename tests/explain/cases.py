@@ -3,6 +3,7 @@
     # ..                       a comment
     case NAME                  begins a case
     options WORD ..            options for the command
+    preference N               the cluster's preference, where it is not 0; it stands before the steps
     given STATE                the state of lock 0 before the first step, where it is not fresh; a refused delivery shows it, as record 1
     STEP = ANSWER              a step as ./assemble takes it, and its answer; behind it the handling, if it has one
     after STATE                the lock's state after it; without this line it is as before
@@ -11,8 +12,9 @@
     > TEXT                     a line that the command should write; a case without text is only run
 
 A line that begins with a blank goes on with the one before it. A STATE is written as in docs/inspect.md, with these shorter forms: whatever is as in a fresh
-lock, null, false, empty or 0 is left out; the decider is [MODE,MACHINE,INCARNATION]; agents and clients are given by number, a client as [STATUS,MODE] and a
-waiter as [CLIENT,MODE]; a packet with "times" stands that often. The clients' reasons are put in from the rest of the state."""
+lock, null, false, empty or 0 is left out; the decider is [MODE,MACHINE,INCARNATION], and [MODE,MACHINE,INCARNATION,true] where it knows that a writer waits;
+agents and clients are given by number, a client as [STATUS,MODE] and a waiter as [CLIENT,MODE]; a packet with "times" stands that often. The clients' reasons
+are put in from the rest of the state."""
 import json
 
 from desk.lines import FORMS, LOCKS, fresh, shown
@@ -20,7 +22,7 @@ from desk.reasons import reasons
 
 KINDS = {"acquire": ["lock", "machine", "task", "mode"], "release": ["lock", "machine", "task"], "deliver": ["lock", "index"]}
 MODES = {"shared": 3, "exclusive": 2}
-ENDS = {0: "end", 12: "bad record", 13: "too long"}
+ENDS = {0: "end", 12: "bad record", 13: "too long", 16: "bad preference"}
 
 
 class Case:
@@ -29,21 +31,25 @@ class Case:
     def __init__(self, name):
         self.name, self.options, self.objects, self.expected = name, [], [], []
         self.given = False  # whether record 1 only shows the first state
+        self.preference = 0
         self.states = {}
 
     def lines(self):
         """The lines of inspect, with a plain last line where the case has none."""
-        objects = self.objects if "end" in self.objects[-1] else [*self.objects, end_of(f"{len(self.objects)} = 0 {{}}", self.told())]
+        objects = self.objects if "end" in self.objects[-1] else [*self.objects, self.end(f"{len(self.objects)} = 0 {{}}")]
         return [json.dumps(one, separators=(",", ":")) for one in objects]
 
     def told(self):
         """The last handling of the steps, or None."""
         return ([None] + [one["handling"] for one in self.objects if one["handling"]])[-1]
 
+    def end(self, text):
+        return end_of(text, self.told(), self.preference)
+
     def add_step(self, text, state=None):
         words, answer = text.rsplit(" = ", 1)
         number, _, handling = answer.partition(" ")
-        step = numbered(len(self.objects) + 1, words, int(number), handling or None)
+        step = numbered(len(self.objects) + 1, words, int(number), handling or None, self.preference)
         lock = step["lock"]
         if lock < LOCKS:
             self.states[lock] = state or self.states.get(lock) or fresh()
@@ -55,12 +61,12 @@ class Case:
         self.objects[-1].update(shown(state))
 
 
-def numbered(number, words, answer, handling=None):
-    """A record's line, as far as its handling."""
+def numbered(number, words, answer, handling=None, preference=0):
+    """A record's line, as far as its preference."""
     kind, *rest = words.split()
     values = [part for word in rest for part in word.split("/")]
     fields = zip(KINDS[kind], (MODES.get(value) or int(value) for value in values), strict=True)
-    return {"n": number, "kind": kind, **dict(fields), "answer": answer, "handling": handling}
+    return {"n": number, "kind": kind, **dict(fields), "answer": answer, "handling": handling, "preference": preference}
 
 
 def agent_of(short):
@@ -80,7 +86,7 @@ def state_of(text):
     """A lock's state from its short form."""
     short, state = json.loads(text), fresh()
     if "decider" in short:
-        state["decider"] = dict(zip(FORMS["decider"], short["decider"]))
+        state["decider"].update(zip(FORMS["decider"], short["decider"]))
     for machine, agent in short.get("agents", {}).items():
         state["agents"][int(machine)] = agent_of(agent)
     for number, (status, mode) in short.get("clients", {}).items():
@@ -95,11 +101,11 @@ def drain_of(lock, count=0, answer=0, handling=None):
     return {"lock": lock, "answer": answer, "count": count, "handling": handling}
 
 
-def end_of(text, handling=None):
+def end_of(text, handling=None, preference=0):
     """The last line of inspect."""
     records, answer, drains = text.replace("= ", "").split(" ", 2)
     given = {int(lock): drain if isinstance(drain, list) else [drain] for lock, drain in json.loads(drains).items()}
-    return {"end": ENDS[int(answer)], "answer": int(answer), "records": int(records), "handling": handling,
+    return {"end": ENDS[int(answer)], "answer": int(answer), "records": int(records), "handling": handling, "preference": preference,
             "drains": [drain_of(lock, *given.get(lock, [])) for lock in range(LOCKS)]}
 
 
@@ -107,13 +113,15 @@ def put(case, word, text):
     """Adds a line of the file to its case."""
     if word == "options":
         case.options = text.split()
+    elif word == "preference":
+        case.preference = int(text)
     elif word == "given":
         case.given = not case.objects
         case.add_step("deliver 0 255 = 8", state_of(text))
     elif word == "after":
         case.put_state(state_of(text))
     elif word == "end":
-        case.objects.append(end_of(text, case.told()))
+        case.objects.append(case.end(text))
     elif word == ">":
         case.expected.append(text)
     else:

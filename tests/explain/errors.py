@@ -24,6 +24,11 @@ def replaced(line, **fields):
     return {**line, **fields}
 
 
+def changed(line, writer):
+    """A line with another bit of the decider."""
+    return {**line, "state": {**line["state"], "decider": {**line["state"]["decider"], "writer": writer}}}
+
+
 RIGHT = {case.name: case.objects for case in cases_of(pathlib.Path(__file__).parent / "reasons.cases")}
 
 
@@ -41,6 +46,12 @@ TURNED = {"kind": ASKED["kind"], **ASKED}
 FIRST = "line 1 is not one that inspect writes (docs/inspect.md)"
 MISSING = "the last line of inspect is missing (docs/inspect.md)"
 FOLLOWS = "line 1 does not follow from the state before it (docs/protocol.md)"
+
+SECOND = FIRST.replace("1", "2", 1)
+ENDED = end_of("1 = 0 {}")
+MALFORMED = replaced(refused(1), answer=11, preference=2)
+ALL_REFUSED = end_of('1 = 0 {"0":[0,11],"1":[0,11],"2":[0,11],"3":[0,11],"4":[0,11],"5":[0,11],"6":[0,11],"7":[0,11]}', preference=2)
+BAD = end_of("0 = 16 {}")
 
 # input that is not inspect's lines, and what both filters say of it
 NOT_LINES = [
@@ -94,6 +105,51 @@ NOT_LINES = [
     (lines(refused(1), after(2, "deliver 0 1", '{"decider":[3,0,0]}', 8), end_of("2 = 0 {}")), FOLLOWS.replace("1", "2", 1)),
 ]
 
+# what a line has of the preference and of the decider's bit
+NOT_LINES += [(lines(*objects), wrong) for wrong, *objects in [
+    (FIRST, replaced(ASKED, preference=2), replaced(ENDED, preference=2)),
+    (FIRST, replaced(refused(1), preference=2), replaced(ENDED, preference=2)),
+    (FIRST, replaced(refused(1), preference=2), ALL_REFUSED),
+    (FIRST, {**numbered(1, "deliver 8 0", 1, preference=2), **shown(None)}, ALL_REFUSED),
+    (FIRST, replaced(MALFORMED, preference=256), replaced(ALL_REFUSED, preference=256)),
+    (FIRST, replaced(ASKED, preference=True), replaced(ENDED, preference=1)),
+    (FIRST, replaced(ASKED, preference=None), ENDED),
+    (FIRST, {field: value for field, value in ASKED.items() if field != "preference"}, ENDED),
+    (FIRST, {**{field: value for field, value in ASKED.items() if field != "preference"}, "preference": 0}, ENDED),
+    (FIRST, changed(ASKED, True), ENDED),
+    (FIRST, changed(refused(1), True), ENDED),
+    (FIRST, changed(ASKED, 0), ENDED),
+    (FIRST, changed(ASKED, None), ENDED),
+    (SECOND, ASKED, replaced(refused(2, 1), preference=1), replaced(end_of("2 = 0 {}"), preference=1)),
+    (SECOND, replaced(ASKED, preference=1), refused(2, 1), end_of("2 = 0 {}")),
+    (SECOND, ASKED, replaced(ENDED, preference=1)),
+    (SECOND, replaced(ASKED, preference=1), ENDED),
+    (SECOND, MALFORMED, ENDED),
+    (SECOND, MALFORMED, replaced(ENDED, preference=2)),
+    (SECOND, MALFORMED, replaced(ALL_REFUSED, drains=[*ALL_REFUSED["drains"][:7], ENDED["drains"][7]])),
+    (FIRST, replaced(END, preference=2)),
+    (FIRST, replaced(END, preference=True)),
+    (FIRST, {field: value for field, value in END.items() if field != "preference"}),
+]]
+
+# the end of a transcript that a bad preference refused
+NOT_LINES += [(lines(*objects), wrong) for wrong, *objects in [
+    (FIRST, replaced(BAD, answer=0)),
+    (FIRST, replaced(BAD, answer=13)),
+    (FIRST, replaced(BAD, end="end")),
+    (FIRST, replaced(BAD, end="too long")),
+    (FIRST, replaced(BAD, records=1)),
+    (FIRST, replaced(BAD, handling="taken")),
+    (FIRST, replaced(BAD, preference=1)),
+    (FIRST, replaced(BAD, preference=2)),
+    (FIRST, replaced(BAD, preference=2, drains=ALL_REFUSED["drains"])),
+    (FIRST, replaced(BAD, drains=ALL_REFUSED["drains"])),
+    (FIRST, end_of('0 = 16 {"3":5}')),
+    (SECOND, refused(1), BAD),
+    (SECOND, refused(1), replaced(BAD, records=1)),
+    (SECOND, refused(1), end_of("0 = 13 {}")),
+]]
+
 REJECTED, MOVED, NOTHING = "a rejected GRANT, and two in the queue of its agent", "only indexes move", "nothing of a client is under way"
 KINDS, LOWEST = "two reasons of different kinds", "two reasons of one kind"
 # a reason that the state of a case's line does not give to this client
@@ -134,22 +190,40 @@ NOT_IN_FORM = [
 NO_LOCK = lines({**numbered(1, "deliver 7 0", 1), **shown(None)}, end_of("1 = 0 {}"))
 LONG = lines(*(refused(number) for number in range(1, 62)), end_of("61 = 0 {}"))
 
+TWICE = "--preference goes with a transcript, not with --lines: the lines say it themselves"
+USAGES = {"inspect": "inspect [--preference N] [TRANSCRIPT]", "replay": "replay [TRANSCRIPT]"}
+
 ERRORS = [
     *(([f"./{name}", *words, "no/such/file"], b"", f"{name}: cannot read no/such/file: No such file or directory")
       for name in ("explain", "picture") for words in ([], ["--lines"])),
     *(([f"./{name}", "--lines", "docs"], b"", f"{name}: cannot read docs: Is a directory") for name in ("explain", "picture")),
     *(([f"./{name}", "--unknown"], b"", f"{name}: unrecognized arguments: --unknown (see {name} --help)") for name in ("explain", "picture")),
     *(([f"./{name}", "one", "two"], b"", f"{name}: unrecognized arguments: two (see {name} --help)") for name in ("explain", "picture")),
+    *(([f"./{name}", "--preference", number, "no/such/file"], b"", f"{name}: argument --preference: takes a decimal number, not '{number}' (see {name} --help)")
+      for name in ("explain", "picture") for number in ("writers", "-1", "1.0", " 1", "0x1", "", "\u0661")),
+    *(([f"./{name}", "--preference"], b"", f"{name}: argument --preference: expected one argument (see {name} --help)") for name in ("explain", "picture")),
+    *(([f"./{name}", "--lines", "--preference", number], lines(END), f"{name}: {TWICE}") for name in ("explain", "picture") for number in "01"),
     *(([f"./{name}", "--lines"], given, f"{name}: {wrong}") for name in ("explain", "picture") for given, wrong in NOT_LINES),
     (["./explain", "--lines"], NO_LOCK, f"explain: {FOLLOWS}"),
     (["./picture", "--lines", "--lock", "8"], LONG, "picture: argument --lock: invalid choice: 8 (choose from 0, 1, 2, 3, 4, 5, 6, 7) (see picture --help)"),
     (["./picture", "--lines", "--lock", "x"], LONG, "picture: argument --lock: invalid int value: 'x' (see picture --help)"),
     (["./picture", "--lines"], LONG, "picture: lock 0 has 61 steps, and a picture shows at most 60"),
     (["./picture", "--lines", "--lock", "3"], LONG, "picture: there is no step of lock 3"),
-    *(([f"./{name}", *words], b"", f"{name}: {wrong}") for name in ("inspect", "replay") for words, wrong in [
+    *(([f"./{name}", *words], b"", f"{name}: {wrong}") for name, usage in USAGES.items() for words, wrong in [
         (["no/such/file"], "cannot read no/such/file"),
         (["docs"], "cannot read docs"),
-        (["--unknown"], f"unknown option --unknown (usage: {name} [TRANSCRIPT])"),
-        (["one", "two"], f"more than one file (usage: {name} [TRANSCRIPT])"),
+        (["--unknown"], f"unknown option --unknown (usage: {usage})"),
+        (["--preference=1"], f"unknown option --preference=1 (usage: {usage})"),
+        (["one", "two"], f"more than one file (usage: {usage})"),
+    ]),
+    (["./replay", "--preference", "1"], b"", f"replay: unknown option --preference (usage: {USAGES['replay']})"),
+    *((["./inspect", *words], b"", f"inspect: {wrong}") for words, wrong in [
+        (["--preference", "1", "no/such/file"], "cannot read no/such/file"),
+        (["--preference", "1", "--unknown"], f"unknown option --unknown (usage: {USAGES['inspect']})"),
+        (["--preference", "1", "one", "two"], f"more than one file (usage: {USAGES['inspect']})"),
+        (["one", "--preference", "1"], f"more than one file (usage: {USAGES['inspect']})"),
+        (["--preference"], f"--preference takes a decimal number, not '' (usage: {USAGES['inspect']})"),
+        *((["--preference", number, "no/such/file"], f"--preference takes a decimal number, not '{number}' (usage: {USAGES['inspect']})")
+          for number in ("writers", "-1", "1.0", " 1", "0x1", "", "\u0661")),
     ]),
 ]

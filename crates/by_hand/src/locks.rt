@@ -20,6 +20,7 @@ fn with_owner(mut s: LockState, owner: Owner) -> LockState {
     let decider = Decider {
         owner,
         incarnation: 0,
+        writer: false,
     };
     s.decider = decider;
     s
@@ -36,6 +37,20 @@ fn with_incarnation(mut s: LockState, n: u8) -> LockState {
     let decider = Decider {
         owner,
         incarnation: n,
+        writer: d.writer,
+    };
+    s.decider = decider;
+    s
+}
+
+// The decider knows of a writer.
+fn with_writer(mut s: LockState) -> LockState {
+    let d = s.decider;
+    let owner = d.owner;
+    let decider = Decider {
+        owner,
+        incarnation: d.incarnation,
+        writer: true,
     };
     s.decider = decider;
     s
@@ -108,7 +123,7 @@ pub fn made(s: LockState, x: AgentSlot, p: Packet, t: &[u8], n: Numbers) -> Lock
     let k = word(
         t,
         n.count,
-        b"3owned 1free 2incarnation 2agent 3holds 3waits 2packet 2length 1filled",
+        b"3owned 1free 2incarnation 2agent 3holds 3waits 2packet 2length 1filled 1writer",
     );
     match k {
         0 => owned(s, n.second, n.third),
@@ -120,6 +135,7 @@ pub fn made(s: LockState, x: AgentSlot, p: Packet, t: &[u8], n: Numbers) -> Lock
         6 => with_packet(s, n.second, p),
         7 => with_length(s, n.second),
         8 => filled(s, p),
+        9 => with_writer(s),
         _ => s,
     }
 }

@@ -16,6 +16,7 @@ use parts::blank::plain_packet;
 use parts::blank::resent;
 use parts::blank::unowned;
 use parts::holders::is_shared;
+use parts::queue::writer_first;
 use rules::effect::Effect;
 use rules::effect::cannot_place;
 use rules::effect::doing;
@@ -28,11 +29,12 @@ use rules::site::with_decider;
 ghost use mathlib.Core.Path.{_≡_};
 ghost use mathlib.Core.Bool.{true, false};
 ghost use lib.Dec.{eqb};
-ghost use Rattle.model.specs.AtDecider.{sentOn, toOwner, grantsWith, grantsFirst, mayShare, shares, rejectedTo, decidesAcquire, decidesFree, decidesGrant};
-ghost use Rattle.model.specs.AtDecider.{decides, atDecider};
+ghost use Rattle.model.specs.AtDecider.{sentOn, toOwner, grantsWith, grantsFirst, mayShare, shares, rejectedTo, noting, decidesAcquire, decidesFree};
+ghost use Rattle.model.specs.AtDecider.{decidesGrant, decides, atDecider};
+ghost use Rattle.laws.specs.Shapes.{CanonicalQueue};
 ghost use Rattle.rules.specs.Effects.{verdictOf};
 
-// The decider may grant the request beside the holders: lock and request are both shared.
+// The decider may grant the request beside the holders: lock and request are both shared, and it knows of no writer.
 fn may_share(v: Site, m: Mode) -> bool
     ensures { λ r. ⌜ r ≡ mayShare v m ⌝ }
 {
@@ -40,7 +42,13 @@ fn may_share(v: Site, m: Mode) -> bool
     let o = d.owner;
     match o {
         Owner::Free => false,
-        Owner::Owned(n, _) => { if is_shared(n) { is_shared(m) } else { false } }
+        Owner::Owned(n, _) => {
+            if is_shared(n) {
+                if is_shared(m) { !d.writer } else { false }
+            } else {
+                false
+            }
+        }
     }
 }
 
@@ -65,14 +73,15 @@ fn to_owner(o: Owner, v: Site, p: Packet) -> Effect
     }
 }
 
-// The client's machine becomes the owner, and gets the agent a with the GRANT.
-fn grants_with(v: Site, c: ClientId, m: Mode, a: Agent) -> Effect
-    ensures { λ r. ⌜ verdictOf r ≡ grantsWith v c m a ⌝ }
+// The client's machine becomes the owner, and gets the agent a with the GRANT; writer: one is known to wait.
+fn grants_with(v: Site, c: ClientId, m: Mode, a: Agent, writer: bool) -> Effect
+    ensures { λ r. ⌜ verdictOf r ≡ grantsWith v c m a writer ⌝ }
 {
     let k = machine_of(c);
     let d = Decider {
         owner: Owner::Owned(m, k),
         incarnation: 0,
+        writer,
     };
     let p = carrying(
         Message::Grant { client: c, mode: m },
@@ -86,7 +95,8 @@ fn grants_with(v: Site, c: ClientId, m: Mode, a: Agent) -> Effect
 fn grants_first(v: Site, c: ClientId, m: Mode) -> Effect
     ensures { λ r. ⌜ verdictOf r ≡ grantsFirst v c m ⌝ }
 {
-    grants_with(v, c, m, new_agent(m))
+    let d = v.decider;
+    grants_with(v, c, m, new_agent(m), d.writer)
 }
 
 // The GRANT goes out before the marked ACQUIRE.
@@ -99,6 +109,7 @@ fn shares(v: Site, c: ClientId, k: MachineId) -> Effect
     let d = Decider {
         owner: o,
         incarnation: n,
+        writer: old.writer,
     };
     let g = plain_packet(
         Message::Grant {
@@ -117,6 +128,21 @@ fn shares(v: Site, c: ClientId, k: MachineId) -> Effect
     );
     let w = with_decider(v, d);
     doing(w, two_packets(g, a))
+}
+
+// The site once an unmarked request in mode m is sent on: the decider knows of a writer then, where these are preferred.
+fn noting(v: Site, m: Mode) -> Site
+    ensures { λ r. ⌜ r ≡ noting v m ⌝ }
+{
+    let old = v.decider;
+    let o = old.owner;
+    let shared = is_shared(m);
+    let d = Decider {
+        owner: o,
+        incarnation: old.incarnation,
+        writer: old.writer | ((v.preference == 1) & !shared),
+    };
+    with_decider(v, d)
 }
 
 fn decides_acquire(o: Owner, v: Site, p: Packet, c: ClientId, m: Mode, granted: bool) -> Effect
@@ -138,7 +164,7 @@ fn decides_unmarked(o: Owner, v: Site, p: Packet, c: ClientId, m: Mode) -> Effec
             if may_share(v, m) {
                 shares(v, c, k)
             } else {
-                to_owner(o, v, p)
+                to_owner(o, noting(v, m), p)
             }
         }
     }
@@ -169,6 +195,7 @@ fn decides_free(o: Owner, v: Site, p: Packet) -> Effect
 
 // A GRANT with its agent.
 fn decides_agent(o: Owner, v: Site, p: Packet, c: ClientId, m: Mode) -> Effect
+    requires { ⌜ CanonicalQueue (p .carried .agent .queue) ⌝ }
     ensures { λ r. ⌜ verdictOf r ≡ decidesGrant true o v p c m ⌝ }
 {
     match o {
@@ -177,8 +204,9 @@ fn decides_agent(o: Owner, v: Site, p: Packet, c: ClientId, m: Mode) -> Effect
             if is_current(v.decider, p) {
                 let x = p.carried;
                 let mut a = x.agent;
+                let writer = writer_first(v.preference, a);
                 a.incarnation = 0;
-                grants_with(v, c, m, a)
+                grants_with(v, c, m, a, writer)
             } else {
                 sending(v, rejected_to(p, k))
             }
@@ -187,6 +215,7 @@ fn decides_agent(o: Owner, v: Site, p: Packet, c: ClientId, m: Mode) -> Effect
 }
 
 fn decides_grant(o: Owner, v: Site, p: Packet, c: ClientId, m: Mode) -> Effect
+    requires { ⌜ CanonicalQueue (p .carried .agent .queue) ⌝ }
     ensures { λ r. ⌜ verdictOf r ≡ decidesGrant (p .carried .present) o v p c m ⌝ }
 {
     if p.carried.present {
@@ -197,6 +226,7 @@ fn decides_grant(o: Owner, v: Site, p: Packet, c: ClientId, m: Mode) -> Effect
 }
 
 fn decides(m: Message, o: Owner, v: Site, p: Packet) -> Effect
+    requires { ⌜ CanonicalQueue (p .carried .agent .queue) ⌝ }
     ensures { λ r. ⌜ verdictOf r ≡ decides m o v p ⌝ }
 {
     match m {
@@ -212,6 +242,7 @@ fn decides(m: Message, o: Owner, v: Site, p: Packet) -> Effect
 }
 
 pub fn at_decider(v: Site, p: Packet) -> Effect
+    requires { ⌜ CanonicalQueue (p .carried .agent .queue) ⌝ }
     ensures { λ r. ⌜ verdictOf r ≡ atDecider v p ⌝ }
 {
     let m = p.message;

@@ -41,7 +41,7 @@ ownerBytes Unowned = 0 ∷ 0 ∷ []
 ownerBytes (Owned m k) = modeNumber m ∷ k .0 ∷ []
 
 unfoldable pub deciderBytes : Decider → List ℕ
-deciderBytes d = ownerBytes (d .owner) ++ (d .incarnation ∷ [])
+deciderBytes d = ownerBytes (d .owner) ++ (d .incarnation ∷ flagNumber (d .writer) ∷ [])
 
 -- item 2; a queue's waiters are at most as many as its slots, whatever its length says, and so are a wire's packets
 unfoldable pub waiterBytes : Waiter → List ℕ
@@ -87,7 +87,7 @@ unfoldable pub lockBytes : LockState → List ℕ
 lockBytes s = deciderBytes (s .decider) ++ (each slotBytes (s .agents) ++ (each clientBytes (s .clients) ++ wireBytes (s .wire)))
 
 unfoldable pub clusterBytes : Cluster → List ℕ
-clusterBytes x = each lockBytes (x .locks)
+clusterBytes x = x .preference ∷ each lockBytes (x .locks)
 
 -- a handling, as 'A step' writes it
 abbrev pub handlingNumber : Handling → ℕ

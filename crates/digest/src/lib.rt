@@ -81,7 +81,7 @@ fn decider(h: u32, d: Decider) -> u32
     ensures { λ r. ⌜ r ≡ digestOf h (deciderBytes d) ⌝ }
 {
     let o = d.owner;
-    byte(owner(h, o), d.incarnation)
+    two(owner(h, o), d.incarnation, flag_number(d.writer))
 }
 
 // ---- item 2
@@ -284,7 +284,7 @@ pub fn cluster(h: u32, x: Cluster) -> u32
     ensures { λ r. ⌜ r ≡ digestOf h (clusterBytes x) ⌝ }
 {
     let a = x.locks;
-    locks(h, a)
+    locks(byte(h, x.preference), a)
 }
 
 // ---- what goes into the digest of a step: the answer to the question for a reason

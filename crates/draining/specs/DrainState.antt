@@ -15,11 +15,11 @@ use Rattle.draining.specs.Names.{NotQuiescent, Answer, Accepted, Refused
 use Rattle.model.specs.States.{locks, tasks, clients, packets, lockIn, freshLock}
 use Rattle.model.specs.WellFormed.{lockFormed, wellFormed}
 use Rattle.model.specs.Refusals.{number, first}
-use Rattle.model.specs.Calls.{isHolding, releaseStep, deliverStep, settled, perform, handlingsOf, latest, lastTold}
+use Rattle.model.specs.Calls.{isHolding, releaseStep, deliverStep, withLock, settled, perform, handlingsOf, latest, lastTold}
 use Rattle.model.specs.Drain.{allowance, Next, none, some, releaseFirst, nextOf, nextCall, Drainage, ending, drainage, drainRefused, drainEnded}
 use Rattle.model.specs.Drain.{drainUnless, drain}
 use Rattle.laws.specs.Tests.{bool-cases, pick-yes, pick-no}
-use Rattle.laws.specs.Formed.{all-locks, parts, ready}
+use Rattle.laws.specs.Formed.{cells, parts, ready}
 use Rattle.laws.specs.Shapes.{length-packets}
 use Rattle.laws.specs.CallSteps.{stepOf, settled-answer}
 use Rattle.laws.specs.Clusters.{perform-formed}
@@ -31,104 +31,100 @@ use Rattle.laws.specs.Formed.{lock-read}
 use Rattle.draining.specs.declared.Draining.{Draining}
 
 abbrev pub endedWith : Answer → Draining → Draining
-endedWith a d = record { ended = true; answer = a; left = d .left; told = d .told; state = d .state }
+endedWith a d = record { preference = d .preference; ended = true; answer = a; left = d .left; told = d .told; state = d .state }
 
-abbrev ends : Answer → ℕ → Handling → LockState → Draining
-ends a left h s = record { ended = true; answer = a; left = left; told = record { handling = h }; state = s }
+abbrev ends : ℕ → Answer → ℕ → Handling → LockState → Draining
+ends n a left h s = record { preference = n; ended = true; answer = a; left = left; told = record { handling = h }; state = s }
 
--- with so many steps left, and the last handling told
-unfoldable pub drainState : ℕ → LockId → Handling → LockState → Draining
-drainState zero l h s = elim (nextCall l s) [ none ↦ ends Accepted zero h s | some c ↦ ends (Refused NotQuiescent) zero h s ]
-drainState (suc left) l h s =
+-- in a cluster with the preference n, with so many steps left, and the last handling told
+unfoldable pub drainState : ℕ → ℕ → LockId → Handling → LockState → Draining
+drainState n zero l h s = elim (nextCall l s) [ none ↦ ends n Accepted zero h s | some c ↦ ends n (Refused NotQuiescent) zero h s ]
+drainState n (suc left) l h s =
     elim (nextCall l s) [
-      | none ↦ ends Accepted (suc left) h s
-      | some c ↦ elim (stepOf c s .answer) [
-        | Accepted ↦ drainState left l (latest h (stepOf c s .handling)) (stepOf c s .state)
-        | Refused r ↦ ends (Refused r) (suc left) h s
+      | none ↦ ends n Accepted (suc left) h s
+      | some c ↦ elim (stepOf n c s .answer) [
+        | Accepted ↦ drainState n left l (latest h (stepOf n c s .handling)) (stepOf n c s .state)
+        | Refused r ↦ ends n (Refused r) (suc left) h s
       ]
     ]
 
 -- what is left to do of a drain that came so far
 abbrev pub drainOn : LockId → Draining → Draining
-drainOn l d = drainState (d .left) l (d .told .handling) (d .state)
+drainOn l d = drainState (d .preference) (d .left) l (d .told .handling) (d .state)
 
 -- ---- each way on, as the code takes it
-module _ (l : LockId) (h : Handling) (s : LockState) where
-  state-quiescent : (left : ℕ) → nextCall l s ≡ none → ends Accepted left h s ≡ drainState left l h s
+module _ (n : ℕ) (l : LockId) (h : Handling) (s : LockState) where
+  state-quiescent : (left : ℕ) → nextCall l s ≡ none → ends n Accepted left h s ≡ drainState n left l h s
   unfolding drainState
   state-quiescent zero e = rw (e, drainState)
   state-quiescent (suc left) e = rw (e, drainState)
 
   module _ (c : Call) (e : nextCall l s ≡ some c) where
-    state-spent : ends (Refused NotQuiescent) 0 h s ≡ drainState 0 l h s
+    state-spent : ends n (Refused NotQuiescent) 0 h s ≡ drainState n 0 l h s
     unfolding drainState
     state-spent = rw (e, drainState)
 
-    state-goes : (left : ℕ) → 0 < left → stepOf c s .answer ≡ Accepted
-        → drainState (left - 1) l (latest h (stepOf c s .handling)) (stepOf c s .state) ≡ drainState left l h s
+    state-goes : (left : ℕ) → 0 < left → stepOf n c s .answer ≡ Accepted
+        → drainState n (left - 1) l (latest h (stepOf n c s .handling)) (stepOf n c s .state) ≡ drainState n left l h s
     unfolding drainState
     state-goes zero b a = absurd (omega arith)
     state-goes (suc left) b a = rw sub-one (sym (rw (e, drainState) (rw a)))
 
-    state-refuses : (left : ℕ) (r : Refusal) → 0 < left → stepOf c s .answer ≡ Refused r → ends (Refused r) left h s ≡ drainState left l h s
+    state-refuses : (left : ℕ) (r : Refusal) → 0 < left → stepOf n c s .answer ≡ Refused r → ends n (Refused r) left h s ≡ drainState n left l h s
     unfolding drainState
     state-refuses zero r b a = absurd (omega arith)
     state-refuses (suc left) r b a = rw (e, drainState) (rw a)
 
 -- ---- the drain of a cluster is that of its lock's state
--- the cluster with the lock in another state
-abbrev pub placed : Cluster → LockId → LockState → Cluster
-placed x l s = record { locks = set (x .locks) (l .0) s }
-
 record Agree (left : ℕ) (h : Handling) (x : Cluster) (l : LockId) (d : Drainage) (w : Draining) : Type 0 where
   answer : d .answer ≡ w .answer
   count : length (d .calls) + w .left ≡ left
   told : lastTold h (handlingsOf (d .calls) x) ≡ w .told .handling
-  cluster : d .cluster ≡ placed x l (w .state)
+  cluster : d .cluster ≡ withLock x l (w .state)
 
 -- where neither makes a step
-agree-here : (left : ℕ) (h : Handling) (x : Cluster) (l : LockId) (a : Answer) → Agree left h x l (ending a x) (ends a left h (lockIn x l))
+agree-here : (left : ℕ) (h : Handling) (x : Cluster) (l : LockId) (a : Answer) → Agree left h x l (ending a x) (ends (x .preference) a left h (lockIn x l))
 unfolding lastTold
 agree-here left h x l a = record { answer = refl; count = omega arith; told = refl; cluster = rw (set-getD (x .locks) (l .0) freshLock) }
 
 -- the next call is the lock's step, put in its place
 module _ (l : LockId) (x : Cluster) (c : Call) (g : Goes l x c) where
-  call-answer : perform c x .answer ≡ stepOf c (lockIn x l) .answer
-  call-answer = rw (g .step, g .lock) (settled-answer (stepOf c (lockIn x l) .answer) x l (stepOf c (lockIn x l)))
+  call-answer : perform c x .answer ≡ stepOf (x .preference) c (lockIn x l) .answer
+  call-answer = rw (g .step, g .lock) (settled-answer (stepOf (x .preference) c (lockIn x l) .answer) x l (stepOf (x .preference) c (lockIn x l)))
 
-  module _ (e : stepOf c (lockIn x l) .answer ≡ Accepted) where
-    call-cluster : perform c x .cluster ≡ placed x l (stepOf c (lockIn x l) .state)
+  module _ (e : stepOf (x .preference) c (lockIn x l) .answer ≡ Accepted) where
+    call-cluster : perform c x .cluster ≡ withLock x l (stepOf (x .preference) c (lockIn x l) .state)
     unfolding settled
     call-cluster = rw (g .step, g .lock, e)
 
-    call-told : perform c x .handling ≡ stepOf c (lockIn x l) .handling
+    call-told : perform c x .handling ≡ stepOf (x .preference) c (lockIn x l) .handling
     unfolding settled
     call-told = rw (g .step, g .lock, e)
 
 agree : (left : ℕ) (u : Handling) (x : Cluster) (l : LockId) → wellFormed x ≡ true → l .0 < locks
-    → Agree left u x l (drainage left l x) (drainState left l u (lockIn x l))
+    → Agree left u x l (drainage left l x) (drainState (x .preference) left l u (lockIn x l))
 unfolding drainage drainState lastTold
 agree zero u x l w h = go (nextCall l (lockIn x l)) refl
   where
-    go : (m : Next) → nextCall l (lockIn x l) ≡ m → Agree zero u x l (drainage zero l x) (drainState zero l u (lockIn x l))
+    go : (m : Next) → nextCall l (lockIn x l) ≡ m → Agree zero u x l (drainage zero l x) (drainState (x .preference) zero l u (lockIn x l))
     go none e = rw (e, drainage, drainState) (agree-here zero u x l Accepted)
     go (some c) e = rw (e, drainage, drainState) (agree-here zero u x l (Refused NotQuiescent))
 agree (suc left) u x l w h = go (nextCall l (lockIn x l)) refl (λ t y v. agree left t y l v h)
   where
     Now : Type 0
-    Now = Agree (suc left) u x l (drainage (suc left) l x) (drainState (suc left) l u (lockIn x l))
+    Now = Agree (suc left) u x l (drainage (suc left) l x) (drainState (x .preference) (suc left) l u (lockIn x l))
 
     Later : Type 0
-    Later = (t : Handling) (y : Cluster) → wellFormed y ≡ true → Agree left t y l (drainage left l y) (drainState left l t (lockIn y l))
+    Later = (t : Handling) (y : Cluster) → wellFormed y ≡ true → Agree left t y l (drainage left l y) (drainState (y .preference) left l t (lockIn y l))
 
-    by-step : (c : Call) → Goes l x c → nextCall l (lockIn x l) ≡ some c → (a : Answer) → stepOf c (lockIn x l) .answer ≡ a → Later → Now
+    by-step : (c : Call) → Goes l x c → nextCall l (lockIn x l) ≡ some c → (a : Answer) → stepOf (x .preference) c (lockIn x l) .answer ≡ a → Later → Now
     by-step c g e Accepted q ih =
-        let s = stepOf c (lockIn x l) .state in
-        let t = latest u (stepOf c (lockIn x l) .handling) in
-        let y = placed x l s in
+        let s = stepOf (x .preference) c (lockIn x l) .state in
+        let t = latest u (stepOf (x .preference) c (lockIn x l) .handling) in
+        let y = withLock x l s in
         let p : perform c x .cluster ≡ y = call-cluster l x c g q in
-        let here : lockIn y l ≡ s = getD-set-same (x .locks) (l .0) s freshLock (rw (all-locks x w) h) in
-        let i : Agree left t y l (drainage left l y) (drainState left l t s) = rw here at (ih t y (rw p at (perform-formed c x w))) in
+        let here : lockIn y l ≡ s = getD-set-same (x .locks) (l .0) s freshLock (rw (cells x w .all-locks) h) in
+        let i : Agree left t y l (drainage left l y) (drainState (x .preference) left l t s) = rw here at (ih t y (rw p at (perform-formed c x w))) in
         rw (e, drainage, drainState) (rw (call-answer l x c g, q, p)
         (record {
           answer = i .answer;
@@ -140,11 +136,11 @@ agree (suc left) u x l w h = go (nextCall l (lockIn x l)) refl (λ t y v. agree 
 
     go : (m : Next) → nextCall l (lockIn x l) ≡ m → Later → Now
     go none e ih = rw (e, drainage, drainState) (agree-here (suc left) u x l Accepted)
-    go (some c) e ih = by-step c (goes l x c w h (next-is l (lockIn x l) c e)) e (stepOf c (lockIn x l) .answer) refl ih
+    go (some c) e ih = by-step c (goes l x c w h (next-is l (lockIn x l) c e)) e (stepOf (x .preference) c (lockIn x l) .answer) refl ih
 
 -- what the drain gives, by how that of the lock's state, read with any default, ended
 module _ (x : Cluster) (l : LockId) (d : LockState) (g : (wellFormed x ≡ true) × (l .0 < locks)) {v : Draining}
-    (q : v ≡ drainState allowance l None (getD (x .locks) (l .0) d)) where
+    (q : v ≡ drainState (x .preference) allowance l None (getD (x .locks) (l .0) d)) where
   agreed : Agree allowance None x l (drainage allowance l x) v
   agreed = rw (q, lock-read x l d (g .0) (g .1)) (agree allowance None x l (g .0) (g .1))
 
@@ -156,7 +152,7 @@ module _ (x : Cluster) (l : LockId) (d : LockState) (g : (wellFormed x ≡ true)
   drain-by = rw (g .0, lt-leb locks (l .0) (g .1)) (ap (λ (r : Answer). drainEnded r x (drainage allowance l x)) (agreed .answer))
 
   pub drain-ends : v .answer ≡ Accepted
-      → record { answer = Accepted; count = allowance - v .left; handling = v .told .handling; cluster = placed x l (v .state) } ≡ drain x l
+      → record { answer = Accepted; count = allowance - v .left; handling = v .told .handling; cluster = withLock x l (v .state) } ≡ drain x l
   unfolding drainEnded
   drain-ends a =
       let n : length (drainage allowance l x .calls) ≡ allowance - v .left = omega (arith, made) in
@@ -229,20 +225,20 @@ module _ (l : LockId) (s : LockState) where
   next-none e h = no-packets (packets (s .wire)) e ∙ holder-is l 0 (s .clients) ∙ pick-no _ (le-ltb _ (0 + length (s .clients)) (omega arith))
 
   -- the step of the release that the drain makes
-  pub release-of : (c : ℕ) → stepOf (releaseBy l c) s ≡ releaseStep s (record { 0 = c })
-  release-of c = let q : tasks * (c / tasks) + c % tasks ≡ c = omega arith in rw q
+  pub release-of : (n c : ℕ) → stepOf n (releaseBy l c) s ≡ releaseStep n s (record { 0 = c })
+  release-of n c = let q : tasks * (c / tasks) + c % tasks ≡ c = omega arith in rw q
 
 -- ---- along a phase
 -- d goes on, from a well-formed state
 pub record Open (d : Draining) : Type 0 where
   pub goes : d .ended ≡ false
-  pub formed : lockFormed (d .state) ≡ true
+  pub formed : lockFormed (d .preference) (d .state) ≡ true
 
 -- the drain that began as e has come to d: it is the same drain, to go on with or ended
 pub record Progress (e d : Draining) : Type 0 where
   pub goes : d .ended ≡ false → (l : LockId) → drainOn l d ≡ drainOn l e
   pub stops : d .ended ≡ true → (l : LockId) → d ≡ drainOn l e
-  pub formed : lockFormed (d .state) ≡ true
+  pub formed : lockFormed (d .preference) (d .state) ≡ true
   pub fewer : d .left ≤ e .left
 
 -- and goes on
@@ -288,41 +284,41 @@ module _ (P : Draining → Type 0) {e d : Draining} (i : Since P e d) where
   since-end h = let less : d .left ≡ e .left → ⊥ = λ q. h (i .1 q) in (i .0 .1, λ z. omega (arith, less, i .0 .1 .fewer))
 
 -- p plans the drain's next step on t, after which the state is well formed
-pub record Planned (t : LockState) (p : Plan) : Type 0 where
+pub record Planned (n : ℕ) (t : LockState) (p : Plan) : Type 0 where
   pub call : LockId → Call
   pub gives : Stepped
   pub next : (l : LockId) → nextCall l t ≡ some (call l)
-  pub step : (l : LockId) → stepOf (call l) t ≡ gives
+  pub step : (l : LockId) → stepOf n (call l) t ≡ gives
   pub plans : Plans p t gives
-  pub formed : lockFormed (gives .state) ≡ true
+  pub formed : lockFormed n (gives .state) ≡ true
 
-module _ (t : LockState) (f : lockFormed t ≡ true) where
+module _ (n : ℕ) (t : LockState) (f : lockFormed n t ≡ true) where
   wire-length : length (packets (t .wire)) ≡ t .wire .len
-  wire-length = length-packets (t .wire) (ready t f .wire)
+  wire-length = length-packets (t .wire) (ready n t f .wire)
 
-  pub delivery-planned : (p : Plan) → 0 < t .wire .len → Plans p t (deliverStep t 0) → Planned t p
+  pub delivery-planned : (p : Plan) → 0 < t .wire .len → Plans p t (deliverStep n t 0) → Planned n t p
   delivery-planned p h q =
-      let n : 0 < length (packets (t .wire)) = omega (arith, wire-length) in
+      let b : 0 < length (packets (t .wire)) = omega (arith, wire-length) in
       record {
         call = λ l. DeliverCall l 0;
-        gives = deliverStep t 0;
-        next = λ l. next-delivers l t n;
+        gives = deliverStep n t 0;
+        next = λ l. next-delivers l t b;
         step = λ l. refl;
         plans = q;
-        formed = deliver-formed t 0 n f;
+        formed = deliver-formed n t 0 b f;
       }
 
   -- d is what the search for a holder found
   module _ (e : t .wire .len ≡ 0) (d : ℕ) (q : d ≡ holderFrom 0 (t .clients)) where
-    pub release-planned : (p : Plan) → d < clients → Plans p t (releaseStep t (record { 0 = d })) → Planned t p
+    pub release-planned : (p : Plan) → d < clients → Plans p t (releaseStep n t (record { 0 = d })) → Planned n t p
     release-planned p h g =
         record {
           call = λ l. releaseBy l d;
-          gives = releaseStep t (record { 0 = d });
+          gives = releaseStep n t (record { 0 = d });
           next = λ l. rw q (next-releases l t (wire-length ∙ e) (omega (arith, parts t f .all-clients)));
-          step = λ l. release-of l t d;
+          step = λ l. release-of l t n d;
           plans = g;
-          formed = release-formed t (record { 0 = d }) h f;
+          formed = release-formed n t (record { 0 = d }) h f;
         }
 
     pub none-holds : clients ≤ d → (l : LockId) → nextCall l t ≡ none
@@ -334,7 +330,7 @@ module _ {d : Draining} (o : Open d) where
       (record { goes = λ z. absurd (true≢false z); stops = λ z. q; formed = o .formed; fewer = omega arith }, λ z. absurd (true≢false z))
 
   pub progress-quiescent : ((l : LockId) → nextCall l (d .state) ≡ none) → Stepping d (endedWith Accepted d)
-  progress-quiescent n = progress-ends Accepted (λ l. state-quiescent l (d .told .handling) (d .state) (d .left) (n l))
+  progress-quiescent n = progress-ends Accepted (λ l. state-quiescent (d .preference) l (d .told .handling) (d .state) (d .left) (n l))
 
 -- the answer to a step that is planned with the answer a, with so many left
 unfoldable pub within : ℕ → Answer → Answer
@@ -359,6 +355,7 @@ within-made {left = left} {a = a} q e = go left (sym q ∙ e)
 abbrev pub steppedBy : Plan → Draining → Draining
 steppedBy p d =
     record {
+      preference = d .preference;
       ended = d .ended;
       answer = d .answer;
       left = d .left - 1;
@@ -366,12 +363,13 @@ steppedBy p d =
       state = carriedOut p (d .state);
     }
 
-module _ {d : Draining} {p : Plan} (g : (Open d) × (Planned (d .state) p)) where
+module _ {d : Draining} {p : Plan} (g : (Open d) × (Planned (d .preference) (d .state) p)) where
   progress-spent : d .left ≡ 0 → Stepping d (endedWith (Refused NotQuiescent) d)
-  progress-spent z = progress-ends (g .0) (Refused NotQuiescent) (λ l. rw z (state-spent l (d .told .handling) (d .state) (g .1 .call l) (g .1 .next l)))
+  progress-spent z =
+      progress-ends (g .0) (Refused NotQuiescent) (λ l. rw z (state-spent (d .preference) l (d .told .handling) (d .state) (g .1 .call l) (g .1 .next l)))
 
   -- the step answers what the plan does
-  answers : (a : Answer) → g .1 .gives .answer ≡ a → (l : LockId) → stepOf (g .1 .call l) (d .state) .answer ≡ a
+  answers : (a : Answer) → g .1 .gives .answer ≡ a → (l : LockId) → stepOf (d .preference) (g .1 .call l) (d .state) .answer ≡ a
   answers a q l = rw (g .1 .step l) q
 
   module _ (h : d .left ≡ 0 → ⊥) where
@@ -379,7 +377,7 @@ module _ {d : Draining} {p : Plan} (g : (Open d) × (Planned (d .state) p)) wher
     progress-refused r q =
         let a = answers (Refused r) (ap (λ (t : Stepped). t .answer) (sym (plan-refuses (g .1 .plans) r q))) in
         progress-ends (g .0) (Refused r)
-        (λ l. state-refuses l (d .told .handling) (d .state) (g .1 .call l) (g .1 .next l) (d .left) r (omega (arith, h)) (a l))
+        (λ l. state-refuses (d .preference) l (d .told .handling) (d .state) (g .1 .call l) (g .1 .next l) (d .left) r (omega (arith, h)) (a l))
 
     progress-on : p .answer ≡ Accepted → Stepping d (steppedBy p d)
     progress-on q =
@@ -387,7 +385,8 @@ module _ {d : Draining} {p : Plan} (g : (Open d) × (Planned (d .state) p)) wher
         let a = answers Accepted (ap (λ (t : Stepped). t .answer) (sym t)) in
         rw (ap (λ (t : Stepped). t .state) t, ap (λ (t : Stepped). t .handling) t) (
           record {
-            goes = λ z l. rw (g .1 .step l) at (state-goes l (d .told .handling) (d .state) (g .1 .call l) (g .1 .next l) (d .left) (omega (arith, h)) (a l));
+            goes = λ z l. rw (g .1 .step l) at (state-goes (d .preference) l (d .told .handling) (d .state) (g .1 .call l) (g .1 .next l) (d .left)
+                (omega (arith, h)) (a l));
             stops = λ z. absurd (true≢false (sym z ∙ g .0 .goes));
             formed = g .1 .formed;
             fewer = omega arith;

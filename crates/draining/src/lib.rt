@@ -32,8 +32,9 @@ pub(crate) struct Told {
     pub(crate) handling: Handling,
 }
 
-// How far the drain of one lock's state came: the steps that are left, what they told and, where it has ended, its answer.
+// How far the drain of one lock's state came, in a cluster with this preference: the steps that are left, what they told and, where it has ended, its answer.
 pub(crate) struct Draining {
+    pub(crate) preference: u8,
     pub(crate) ended: bool,
     pub(crate) answer: Answer,
     pub(crate) left: u16,
@@ -63,6 +64,7 @@ fn end_with(d: Draining, a: Answer) -> Draining
     let s = d.state;
     let t = d.told;
     Draining {
+        preference: d.preference,
         ended: true,
         answer: a,
         left: d.left,
@@ -98,7 +100,7 @@ fn deliver_all(start: Draining) -> Draining
 {
     let mut d = start;
     while 0 < d.state.wire.len {
-        let p = plan_deliver(d.state, 0);
+        let p = plan_deliver(d.preference, d.state, 0);
         let planned = p.answer;
         let next = p.handling;
         let a = step_answer(d.left, planned);
@@ -128,7 +130,7 @@ fn release_all(start: Draining) -> Draining
         if CLIENTS as u8 <= c {
             return end_with(d, Answer::Accepted);
         }
-        let p = plan_release(d.state, ClientId(c));
+        let p = plan_release(d.preference, d.state, ClientId(c));
         let planned = p.answer;
         let next = p.handling;
         let a = step_answer(d.left, planned);
@@ -196,6 +198,7 @@ fn drain_lock(x: Cluster, l: LockId) -> Drained
     let s = x.locks[i];
     let none = Handling::None;
     let d = drain_state(Draining {
+        preference: x.preference,
         ended: false,
         answer: Answer::Accepted,
         left: ALLOWANCE,

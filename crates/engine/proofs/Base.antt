@@ -4,9 +4,7 @@ pub use mathlib.Core.List.{[]}
 pub use lib.ListN.{length}
 pub use borrow.Author.Needs.{needs}
 pub use borrow.Author.Tests.{le-leb, lt-leb, eq-eqb, ne-eqb}
-unfoldable pub use Rattle.model.specs.Lists.{padded}
 pub use Rattle.model.specs.States.{locks, machines, tasks, clientOf, packets}
-unfoldable pub use Rattle.model.specs.States.{wireOf, freshLock, fresh}
 unfoldable pub use Rattle.model.specs.Refusals.{first}
 unfoldable pub use Rattle.model.specs.Calls.{perform}
 pub use Rattle.model.specs.Reasons.{reasonTests}

@@ -16,28 +16,28 @@ use Rattle.model.specs.States.{locks, machines, tasks, clientOf, modeOf, freshL
 use Rattle.model.specs.WellFormed.{wellFormed}
 use Rattle.model.specs.Changes.{refused}
 use Rattle.model.specs.Refusals.{Cause, _when_, first}
-use Rattle.model.specs.Calls.{acquireStep, releaseStep, deliverStep, acquireTests, releaseTests, deliverTests, causes, refusing, settled, unless, acquire}
-use Rattle.model.specs.Calls.{release, deliver, perform, lockOf}
+use Rattle.model.specs.Calls.{acquireStep, releaseStep, deliverStep, acquireTests, releaseTests, deliverTests, causes, refusing, withLock, settled, unless}
+use Rattle.model.specs.Calls.{acquire, release, deliver, perform, lockOf}
 use Rattle.laws.specs.Formed.{lock-read}
-use Rattle.laws.specs.CallSteps.{stepOf, step-refused}
+use Rattle.laws.specs.CallSteps.{stepOf, stepIn, step-refused}
 use Rattle.laws.specs.Clusters.{perform-formed}
 use Rattle.planning.specs.declared.plan.Plan.{Plan}
 use Rattle.planning.specs.Plans.{carriedOut, Plans, plan-accepts, plan-refuses}
 
--- ---- the tests that are left to a call on a lock's state, and then the step
+-- ---- the tests that are left to a call on a lock's state, and then the step, in a cluster with the preference n
 -- the step r where the tests' answer accepts, else a refusal that leaves s
 unfoldable pub stepUnless : Answer → LockState → Stepped → Stepped
 stepUnless Accepted s r = r
 stepUnless (Refused n) s r = refused n s
 
-unfoldable pub acquireOn : LockState → MachineId → TaskId → ℕ → Stepped
-acquireOn s k t m = stepUnless (first (acquireTests s k t m)) s (acquireStep s (clientOf k t) (modeOf m))
+unfoldable pub acquireOn : ℕ → LockState → MachineId → TaskId → ℕ → Stepped
+acquireOn n s k t m = stepUnless (first (acquireTests s k t m)) s (acquireStep n s (clientOf k t) (modeOf m))
 
-unfoldable pub releaseOn : LockState → MachineId → TaskId → Stepped
-releaseOn s k t = stepUnless (first (releaseTests s k t)) s (releaseStep s (clientOf k t))
+unfoldable pub releaseOn : ℕ → LockState → MachineId → TaskId → Stepped
+releaseOn n s k t = stepUnless (first (releaseTests s k t)) s (releaseStep n s (clientOf k t))
 
-unfoldable pub deliverOn : LockState → ℕ → Stepped
-deliverOn s i = stepUnless (first (deliverTests s i)) s (deliverStep s i)
+unfoldable pub deliverOn : ℕ → LockState → ℕ → Stepped
+deliverOn n s i = stepUnless (first (deliverTests s i)) s (deliverStep n s i)
 
 -- ---- the tests of machine and task, and those that follow
 abbrev pub rangeTests : MachineId → TaskId → List Cause → List Cause
@@ -72,13 +72,17 @@ testsOf (AcquireCall l k t m) s = acquireTests s k t m
 testsOf (ReleaseCall l k t) s = releaseTests s k t
 testsOf (DeliverCall l i) s = deliverTests s i
 
-unfoldable pub callOn : Call → LockState → Stepped
-callOn c s = stepUnless (first (testsOf c s)) s (stepOf c s)
+unfoldable pub callOn : ℕ → Call → LockState → Stepped
+callOn n c s = stepUnless (first (testsOf c s)) s (stepOf n c s)
+
+-- in its cluster
+abbrev callIn : Call → Cluster → Stepped
+callIn c x = callOn (x .preference) c (lockIn x (lockOf c))
 
 abbrev causesOf : Call → Cluster → List Cause
 causesOf c x = causes x (lockOf c) (testsOf c (lockIn x (lockOf c)))
 
-perform-by : (c : Call) (x : Cluster) → perform c x ≡ unless (first (causesOf c x)) x (lockOf c) (stepOf c (lockIn x (lockOf c)))
+perform-by : (c : Call) (x : Cluster) → perform c x ≡ unless (first (causesOf c x)) x (lockOf c) (stepIn c x)
 unfolding perform acquire release deliver
 perform-by (AcquireCall l k t m) x = refl
 perform-by (ReleaseCall l k t) x = refl
@@ -94,10 +98,10 @@ perform-range c x e h = rw (perform-by c x) (rw (e, le-leb locks (lockOf c .0) h
 
 -- A call writes its lock's state in its place, accepted or refused.
 abbrev pub writtenBy : Call → Cluster → Cluster
-writtenBy c x = record { locks = set (x .locks) (lockOf c .0) (callOn c (lockIn x (lockOf c)) .state) }
+writtenBy c x = withLock x (lockOf c) (callIn c x .state)
 
 pub perform-whole : (c : Call) (x : Cluster) → wellFormed x ≡ true → lockOf c .0 < locks
-    → perform c x ≡ record { answer = callOn c (lockIn x (lockOf c)) .answer; handling = callOn c (lockIn x (lockOf c)) .handling; cluster = writtenBy c x }
+    → perform c x ≡ record { answer = callIn c x .answer; handling = callIn c x .handling; cluster = writtenBy c x }
 unfolding unless settled first callOn stepUnless
 perform-whole c x e h = rw (perform-by c x) (rw (e, lt-leb locks (lockOf c .0) h) (tested (first (testsOf c s))))
   where
@@ -105,28 +109,30 @@ perform-whole c x e h = rw (perform-by c x) (rw (e, lt-leb locks (lockOf c .0) h
     s = lockIn x (lockOf c)
 
     written : Stepped → Outcome
-    written r = record { answer = r .answer; handling = r .handling; cluster = record { locks = set (x .locks) (lockOf c .0) (r .state) } }
+    written r = record { answer = r .answer; handling = r .handling; cluster = withLock x (lockOf c) (r .state) }
 
-    stepped : (a : Answer) → stepOf c s .answer ≡ a → settled a x (lockOf c) (stepOf c s) ≡ written (stepOf c s)
+    stepped : (a : Answer) → stepIn c x .answer ≡ a → settled a x (lockOf c) (stepIn c x) ≡ written (stepIn c x)
     stepped Accepted q = rw q
-    stepped (Refused r) q = rw (step-refused c s r q, set-getD (x .locks) (lockOf c .0) freshLock)
+    stepped (Refused r) q = rw (step-refused (x .preference) c s r q, set-getD (x .locks) (lockOf c .0) freshLock)
 
-    tested : (a : Answer) → unless a x (lockOf c) (stepOf c s) ≡ written (stepUnless a s (stepOf c s))
-    tested Accepted = stepped (stepOf c s .answer) refl
+    tested : (a : Answer) → unless a x (lockOf c) (stepIn c x) ≡ written (stepUnless a s (stepIn c x))
+    tested Accepted = stepped (stepIn c x .answer) refl
     tested (Refused n) = rw (set-getD (x .locks) (lockOf c .0) freshLock)
 
 -- the call by its plan on the state of its lock l, read with any default: written where it accepts, the cluster left where it refuses
 module _ (c : Call) (x : Cluster) (l : LockId) (d : LockState) (f : (wellFormed x ≡ true) × ((l .0 < locks) × (l ≡ lockOf c))) {p : Plan}
-    (g : Plans p (getD (x .locks) (l .0) d) (callOn c (getD (x .locks) (l .0) d))) where
+    (g : Plans p (getD (x .locks) (l .0) d) (callOn (x .preference) c (getD (x .locks) (l .0) d))) where
   abbrev read : LockState
   read = getD (x .locks) (l .0) d
 
-  whole : perform c x
-      ≡ record { answer = callOn c read .answer; handling = callOn c read .handling; cluster = record { locks = set (x .locks) (l .0) (callOn c read .state) } }
+  abbrev called : Stepped
+  called = callOn (x .preference) c read
+
+  whole : perform c x ≡ record { answer = called .answer; handling = called .handling; cluster = withLock x l (called .state) }
   whole = rw (lock-read x l d (f .0) (f .1 .0), f .1 .1) (perform-whole c x (f .0) (rw (f .1 .1) at (f .1 .0)))
 
   pub perform-accepts : p .answer ≡ Accepted → {t : LockState} → t ≡ carriedOut p read
-      → record { answer = p .answer; handling = p .handling; cluster = record { locks = set (x .locks) (l .0) t } } ≡ perform c x
+      → record { answer = p .answer; handling = p .handling; cluster = withLock x l t } ≡ perform c x
   perform-accepts a e = rw (e, a, whole, ← plan-accepts g a)
 
   pub perform-refuses : (n : Refusal) → p .answer ≡ Refused n → record { answer = p .answer; handling = p .handling; cluster = x } ≡ perform c x

@@ -1,12 +1,12 @@
 // The calls on a cluster. Each is, for every cluster and all arguments, the call of the model. A call tests the whole cluster once; runs of calls,
 // which know that a cluster stays well formed, take the steps on one lock in `lock_calls`.
-use crate::cluster::fresh_lock;
-use crate::cluster::refuse_call;
 use crate::lock_calls::lock_of;
 use crate::lock_calls::plan_call;
+use making::refuse_call;
 use model::Answer;
 use model::Call;
 use model::Cluster;
+use model::Handling;
 use model::LOCKS;
 use model::LockId;
 use model::MachineId;
@@ -17,24 +17,17 @@ use planning::plan::carry_out;
 ghost use mathlib.Core.Path.{_≡_};
 ghost use mathlib.Core.Bool.{true};
 ghost use Prim.Native.Nat.{_<_};
-ghost use Rattle.model.specs.States.{locks, fresh};
+ghost use Rattle.model.specs.States.{locks};
 ghost use Rattle.model.specs.WellFormed.{wellFormed};
 ghost use Rattle.model.specs.Calls.{acquire, release, deliver, perform, lockOf};
 
-mod cluster;
 pub mod lock_calls;
 mod waiting;
 
 pub use draining::drain;
 pub use formed::well_formed;
+pub use making::fresh;
 pub use waiting::reason;
-
-pub fn fresh() -> Cluster
-    ensures { λ r. ⌜ r ≡ fresh ⌝ }
-{
-    let s = fresh_lock();
-    Cluster { locks: [s; LOCKS] }
-}
 
 pub fn acquire(x: Cluster, lock: LockId, machine: MachineId, task: TaskId, mode: u8) -> Outcome
     ensures { λ r. ⌜ r ≡ acquire x lock machine task mode ⌝ }
@@ -78,7 +71,7 @@ fn perform_on(l: LockId, c: Call, x: Cluster) -> Outcome
     let mut y = x;
     let i = l.0 as usize;
     let s = y.locks[i];
-    let p = plan_call(c, s);
+    let p = plan_call(x.preference, c, s);
     let a = p.answer;
     let handling = p.handling;
     match a {

@@ -1,6 +1,6 @@
 // The calls on one lock's state that is known to be well formed, for runs of calls: the cluster is tested once, and every call keeps it well formed
 // (laws/specs/Clusters.antt). What is left of a call are its tests on that state, and its step. `plan_call` gives the answer and what is to be
-// written, and writes nothing; `carry_out` makes an accepted step; `call_on` does both; `lock_of` is the call's lock, whose range the caller tests.
+// written, and writes nothing; `carry_out` makes an accepted step; `lock_of` is the call's lock, whose range the caller tests.
 use model::Answer;
 use model::Call;
 use model::ClientId;
@@ -11,7 +11,6 @@ use model::MachineId;
 use model::Mode;
 use model::Refusal;
 use model::Status;
-use model::Stepped;
 use model::TASKS;
 use model::TaskId;
 use parts::state::is_holding;
@@ -137,34 +136,35 @@ fn release_test(s: LockState, k: MachineId, t: TaskId) -> Answer
     }
 }
 
-fn acquire_on(s: LockState, k: MachineId, t: TaskId, m: u8) -> Plan
-    requires { ⌜ lockFormed s ≡ true ⌝ }
-    ensures { λ r. ⌜ Plans r s (acquireOn s k t m) ⌝ }
+// n is the cluster's preference.
+fn acquire_on(n: u8, s: LockState, k: MachineId, t: TaskId, m: u8) -> Plan
+    requires { ⌜ lockFormed n s ≡ true ⌝ }
+    ensures { λ r. ⌜ Plans r s (acquireOn n s k t m) ⌝ }
 {
     let a = acquire_test(s, k, t, m);
     match a {
-        Answer::Accepted => plan_acquire(s, client_of(k, t), mode_of(m)),
-        Answer::Refused(n) => refuse(n),
+        Answer::Accepted => plan_acquire(n, s, client_of(k, t), mode_of(m)),
+        Answer::Refused(r) => refuse(r),
     }
 }
 
-fn release_on(s: LockState, k: MachineId, t: TaskId) -> Plan
-    requires { ⌜ lockFormed s ≡ true ⌝ }
-    ensures { λ r. ⌜ Plans r s (releaseOn s k t) ⌝ }
+fn release_on(n: u8, s: LockState, k: MachineId, t: TaskId) -> Plan
+    requires { ⌜ lockFormed n s ≡ true ⌝ }
+    ensures { λ r. ⌜ Plans r s (releaseOn n s k t) ⌝ }
 {
     let a = release_test(s, k, t);
     match a {
-        Answer::Accepted => plan_release(s, client_of(k, t)),
-        Answer::Refused(n) => refuse(n),
+        Answer::Accepted => plan_release(n, s, client_of(k, t)),
+        Answer::Refused(r) => refuse(r),
     }
 }
 
-fn deliver_on(s: LockState, i: u8) -> Plan
-    requires { ⌜ lockFormed s ≡ true ⌝ }
-    ensures { λ r. ⌜ Plans r s (deliverOn s i) ⌝ }
+fn deliver_on(n: u8, s: LockState, i: u8) -> Plan
+    requires { ⌜ lockFormed n s ≡ true ⌝ }
+    ensures { λ r. ⌜ Plans r s (deliverOn n s i) ⌝ }
 {
     if i < s.wire.len {
-        plan_deliver(s, i)
+        plan_deliver(n, s, i)
     } else {
         refuse(Refusal::IndexRange)
     }
@@ -190,9 +190,9 @@ pub fn lock_of(c: Call) -> LockId
 }
 
 // The call on the state of its lock, planned.
-pub fn plan_call(c: Call, s: LockState) -> Plan
-    requires { ⌜ lockFormed s ≡ true ⌝ }
-    ensures { λ r. ⌜ Plans r s (callOn c s) ⌝ }
+pub fn plan_call(n: u8, c: Call, s: LockState) -> Plan
+    requires { ⌜ lockFormed n s ≡ true ⌝ }
+    ensures { λ r. ⌜ Plans r s (callOn n c s) ⌝ }
 {
     match c {
         Call::Acquire {
@@ -200,37 +200,12 @@ pub fn plan_call(c: Call, s: LockState) -> Plan
             machine,
             task,
             mode,
-        } => acquire_on(s, machine, task, mode),
+        } => acquire_on(n, s, machine, task, mode),
         Call::Release {
             lock: _,
             machine,
             task,
-        } => release_on(s, machine, task),
-        Call::Deliver { lock: _, index } => deliver_on(s, index),
-    }
-}
-
-// The call on the state of its lock, made.
-pub fn call_on(c: Call, s: LockState) -> Stepped
-    requires { ⌜ lockFormed s ≡ true ⌝ }
-    ensures { λ r. ⌜ r ≡ callOn c s ⌝ }
-{
-    let p = plan_call(c, s);
-    let a = p.answer;
-    let handling = p.handling;
-    match a {
-        Answer::Accepted => {
-            let t = carry_out(p, s);
-            Stepped {
-                answer: Answer::Accepted,
-                handling,
-                state: t,
-            }
-        }
-        Answer::Refused(n) => Stepped {
-            answer: Answer::Refused(n),
-            handling,
-            state: s,
-        },
+        } => release_on(n, s, machine, task),
+        Call::Deliver { lock: _, index } => deliver_on(n, s, index),
     }
 }

@@ -4,8 +4,7 @@ use Prim.Native.Nat.{ℕ, _+_, _/_, _%_}
 use Rattle.model.specs.declared.Cluster.{Cluster}
 use Rattle.model.specs.declared.Answer.{Answer}
 use Rattle.model.specs.declared.Answer.the-variants.{Accepted, Refused}
-use Rattle.model.specs.States.{fresh}
-use Rattle.model.specs.Calls.{answersOf}
+use Rattle.model.specs.Calls.{answersOf, fresh}
 use Rattle.model.specs.Transcripts.{callsOf}
 use Rattle.model.specs.Reasons.{reason, reasonNumber}
 
@@ -19,7 +18,7 @@ countAccepted (a ∷ later) = acceptedOne a + countAccepted later
 
 -- the accepted calls of a transcript from a fresh cluster
 abbrev pub acceptedCalls : List ℕ → ℕ
-acceptedCalls bytes = countAccepted (answersOf (callsOf bytes) fresh)
+acceptedCalls bytes = countAccepted (answersOf (callsOf bytes) (fresh 0 .cluster))
 
 -- of this lock and client
 abbrev pub answered : Cluster → ℕ → ℕ → ℕ

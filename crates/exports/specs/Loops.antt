@@ -8,8 +8,7 @@ use lib.ListN.{length}
 use Rattle.model.specs.declared.Cluster.{Cluster}
 use Rattle.model.specs.declared.Call.{Call}
 use Rattle.model.specs.declared.Reading.the-variants.{Record, Bad, End}
-use Rattle.model.specs.States.{fresh}
-use Rattle.model.specs.Calls.{perform, answersOf}
+use Rattle.model.specs.Calls.{perform, answersOf, fresh}
 use Rattle.model.specs.Transcripts.{readRecord, callsFrom}
 use Rattle.exports.specs.Counts.{acceptedOne, countAccepted, acceptedCalls}
 
@@ -59,7 +58,7 @@ pub record Counts (bytes : List ℕ) (x : Cluster) (n i left : ℕ) : Type 0 whe
   pub same : (n + countAccepted (answersOf (callsFrom left bytes i) x)) % 2 ^ 32 ≡ acceptedCalls bytes % 2 ^ 32
   pub small : n < 2 ^ 32
 
-pub counts-start : (bytes : List ℕ) → Counts bytes fresh 0 0 (length bytes)
+pub counts-start : (bytes : List ℕ) → Counts bytes (fresh 0 .cluster) 0 0 (length bytes)
 counts-start bytes = record { same = omega arith; small = omega arith }
 
 module _ {bytes : List ℕ} {x : Cluster} {n i left : ℕ} (s : Counts bytes x n i left) where

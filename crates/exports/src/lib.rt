@@ -7,7 +7,7 @@ use model::Reading;
 use model::TaskId;
 ghost use mathlib.Core.Path.{_≡_};
 ghost use Prim.Native.Nat.{_+_, _*_, _%_, _^_};
-ghost use Rattle.model.specs.States.{fresh};
+ghost use Rattle.model.specs.Calls.{fresh};
 ghost use Rattle.model.specs.Drain.{drain};
 ghost use Rattle.model.specs.Transcripts.{replay};
 ghost use Rattle.digest.specs.Bytes.{digestOf, clusterBytes};
@@ -16,21 +16,21 @@ ghost use Rattle.exports.specs.Counts.{acceptedOne, acceptedCalls, answe
 // The digest of the cluster that the transcript leads to.
 #[no_mangle]
 pub extern "C" fn domezatsy_digest(bytes: &[u8]) -> u32
-    ensures { λ r. ⌜ r ≡ digestOf 0 (clusterBytes (replay fresh (now (bytes .entry)) .cluster)) ⌝ }
+    ensures { λ r. ⌜ r ≡ digestOf 0 (clusterBytes (replay (fresh 0 .cluster) (now (bytes .entry)) .cluster)) ⌝ }
 {
-    let r = transcript::run::replay(engine::fresh(), bytes);
+    let r = transcript::run::replay(engine::fresh(0).cluster, bytes);
     digest::cluster(0, r.cluster)
 }
 
 // Runs the transcript from a fresh cluster so many times: its records in all.
 #[no_mangle]
 pub extern "C" fn domezatsy_replays(bytes: &[u8], times: u32) -> u32
-    ensures { λ r. ⌜ r ≡ (times * replay fresh (now (bytes .entry)) .records) % 2 ^ 32 ⌝ }
+    ensures { λ r. ⌜ r ≡ (times * replay (fresh 0 .cluster) (now (bytes .entry)) .records) % 2 ^ 32 ⌝ }
 {
     let mut records: u32 = 0;
     let mut left = times;
     while left > 0 {
-        let r = transcript::run::replay(engine::fresh(), bytes);
+        let r = transcript::run::replay(engine::fresh(0).cluster, bytes);
         records = std::num::wrapping_add_u32(records, r.records as u32);
         left -= 1;
     }
@@ -51,7 +51,8 @@ fn accepted_one(a: Answer) -> u32
 pub extern "C" fn domezatsy_calls(bytes: &[u8]) -> u32
     ensures { λ r. ⌜ r ≡ acceptedCalls (now (bytes .entry)) % 2 ^ 32 ⌝ }
 {
-    let mut x = engine::fresh();
+    let made = engine::fresh(0);
+    let mut x = made.cluster;
     let mut accepted: u32 = 0;
     let mut at: usize = 0;
     let mut left = bytes.len();
@@ -80,9 +81,9 @@ pub extern "C" fn domezatsy_calls(bytes: &[u8]) -> u32
 // Drains the lock of the cluster that the transcript leads to, so many times: the steps in all.
 #[no_mangle]
 pub extern "C" fn domezatsy_drains(bytes: &[u8], lock: u8, times: u32) -> u32
-    ensures { λ r. ⌜ r ≡ (times * drain (replay fresh (now (bytes .entry)) .cluster) (record { 0 = lock }) .count) % 2 ^ 32 ⌝ }
+    ensures { λ r. ⌜ r ≡ (times * drain (replay (fresh 0 .cluster) (now (bytes .entry)) .cluster) (record { 0 = lock }) .count) % 2 ^ 32 ⌝ }
 {
-    let r = transcript::run::replay(engine::fresh(), bytes);
+    let r = transcript::run::replay(engine::fresh(0).cluster, bytes);
     drains(r.cluster, lock, times)
 }
 
@@ -102,9 +103,9 @@ fn drains(x: Cluster, lock: u8, times: u32) -> u32
 // Asks why the client, by number, waits in the cluster that the transcript leads to, so many times: the numbers of the answers and 1 for each.
 #[no_mangle]
 pub extern "C" fn domezatsy_reasons(bytes: &[u8], lock: u8, client: u8, times: u32) -> u32
-    ensures { λ r. ⌜ r ≡ (times * (answered (replay fresh (now (bytes .entry)) .cluster) lock client + 1)) % 2 ^ 32 ⌝ }
+    ensures { λ r. ⌜ r ≡ (times * (answered (replay (fresh 0 .cluster) (now (bytes .entry)) .cluster) lock client + 1)) % 2 ^ 32 ⌝ }
 {
-    let r = transcript::run::replay(engine::fresh(), bytes);
+    let r = transcript::run::replay(engine::fresh(0).cluster, bytes);
     asked(r.cluster, lock, client, times)
 }
 

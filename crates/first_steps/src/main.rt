@@ -11,8 +11,8 @@ fn print(n: u16) {
 }
 
 fn main() {
-    let cluster = engine::fresh();
-    let asked = engine::acquire(cluster, LockId(0), MachineId(1), TaskId(2), 3);
+    let made = engine::fresh(0);
+    let asked = engine::acquire(made.cluster, LockId(0), MachineId(1), TaskId(2), 3);
     let answer = asked.answer;
     print(answer.number() as u16);
     let sent = engine::deliver(asked.cluster, LockId(0), 0);

@@ -7,12 +7,14 @@ use model::CLIENTS;
 use model::ClientId;
 use model::ClientState;
 use model::Cluster;
+use model::Decider;
 use model::LOCKS;
 use model::LockState;
 use model::MACHINES;
 use model::Message;
 use model::Mode;
 use model::Owner;
+use model::PREFERENCES;
 use model::Packet;
 use model::QUEUE_CAPACITY;
 use model::Queue;
@@ -27,9 +29,9 @@ ghost use lib.Dec.{eqb};
 ghost use Rattle.model.specs.Lists.{all};
 ghost use Rattle.model.specs.States.{locks, machines, clients, queueCapacity, wireCapacity, isShared};
 ghost use Rattle.model.specs.declared.Message.the-variants.{Free};
-ghost use Rattle.model.specs.WellFormed.{clientInRange, ownerInRange, addressInRange, shaped, isBlankWaiter, distinct, waiterInRange, queueFormed, agentFormed};
-ghost use Rattle.model.specs.WellFormed.{isBlankAgent, slotFormed, toDecider, messageFormed, packetFormed, isFree, isBlankPacket, wireFormed, lockFormed};
-ghost use Rattle.model.specs.WellFormed.{wellFormed};
+ghost use Rattle.model.specs.WellFormed.{clientInRange, ownerInRange, deciderFormed, addressInRange, shaped, isBlankWaiter, distinct, waiterInRange};
+ghost use Rattle.model.specs.WellFormed.{queueFormed, agentFormed, isBlankAgent, slotFormed, toDecider, messageFormed, packetFormed, isFree, isBlankPacket};
+ghost use Rattle.model.specs.WellFormed.{wireFormed, lockFormed, wellFormed};
 
 // ---- blank slots
 fn is_exclusive(m: Mode) -> bool
@@ -291,7 +293,7 @@ fn wire_formed(w: Wire) -> bool
     }
 }
 
-// ---- a lock and the cluster
+// ---- a lock and the cluster, which has the preference n
 fn owner_in_range(o: Owner) -> bool
     ensures { λ r. ⌜ r ≡ ownerInRange o ⌝ }
 {
@@ -299,6 +301,14 @@ fn owner_in_range(o: Owner) -> bool
         Owner::Free => true,
         Owner::Owned(_, k) => k.0 < MACHINES as u8,
     }
+}
+
+fn decider_formed(n: u8, d: Decider) -> bool
+    ensures { λ r. ⌜ r ≡ deciderFormed n d ⌝ }
+{
+    let o = d.owner;
+    let owner = owner_in_range(o);
+    owner & (!d.writer | (n == 1))
 }
 
 fn slots_formed(a: [AgentSlot; MACHINES]) -> bool
@@ -321,28 +331,26 @@ fn has_all_clients(a: [ClientState; CLIENTS]) -> bool
     true
 }
 
-fn lock_formed(s: LockState) -> bool
-    ensures { λ r. ⌜ r ≡ lockFormed s ⌝ }
+fn lock_formed(n: u8, s: LockState) -> bool
+    ensures { λ r. ⌜ r ≡ lockFormed n s ⌝ }
 {
-    let d = s.decider;
-    let o = d.owner;
     let a = s.agents;
     let c = s.clients;
-    let owner = owner_in_range(o);
+    let decider = decider_formed(n, s.decider);
     let agents = slots_formed(a);
     let clients = has_all_clients(c);
     let wire = wire_formed(s.wire);
-    owner & (agents & (clients & wire))
+    decider & (agents & (clients & wire))
 }
 
-fn locks_formed(a: [LockState; LOCKS]) -> bool
-    ensures { λ r. ⌜ r ≡ (eqb (length a) locks && all lockFormed a) ⌝ }
+fn locks_formed(n: u8, a: [LockState; LOCKS]) -> bool
+    ensures { λ r. ⌜ r ≡ (eqb (length a) locks && all (lockFormed n) a) ⌝ }
 {
     let mut ok = true;
     let mut j: usize = 0;
     while j < LOCKS {
         let s = a[j];
-        let b = lock_formed(s);
+        let b = lock_formed(n, s);
         ok = ok & b;
         j += 1;
     }
@@ -353,5 +361,7 @@ pub fn well_formed(x: Cluster) -> bool
     ensures { λ r. ⌜ r ≡ wellFormed x ⌝ }
 {
     let a = x.locks;
-    locks_formed(a)
+    let n = x.preference;
+    let locks = locks_formed(n, a);
+    (n < PREFERENCES) & locks
 }

@@ -4,7 +4,11 @@ use crate::objects::put_record;
 use engine::fresh;
 use engine::perform;
 use libc::STDOUT_FILENO;
+use model::Answer;
+use model::Cluster;
+use model::Outcome;
 use model::Reading;
+use model::Replayed;
 use records::reader::read_at;
 use transcript::run::replay;
 
@@ -33,13 +37,13 @@ fn room(out: &[u8; ROOM], at: usize) -> usize {
     }
 }
 
-// A line for each record, its call made on the cluster that the one before left; none for a transcript that is too long. Gives the position behind the
-// last line.
-fn put_records(out: &mut [u8; ROOM], bytes: &[u8]) -> usize {
+// A line for each record, its call made on the cluster that the one before left, the first on x; none for a transcript that is too long. Gives the position
+// behind the last line.
+fn put_records(out: &mut [u8; ROOM], start: Cluster, bytes: &[u8]) -> usize {
     if 65535 < bytes.len() {
         return 0;
     }
-    let mut x = fresh();
+    let mut x = start;
     let mut at: usize = 0;
     let mut k: usize = 0;
     // At most 10,922 records of six bytes or more, and one turn for what is behind them.
@@ -65,14 +69,34 @@ fn put_records(out: &mut [u8; ROOM], bytes: &[u8]) -> usize {
     k
 }
 
-fn put_lines(out: &mut [u8; ROOM], bytes: &[u8]) -> usize {
-    let k = put_records(out, bytes);
+fn put_lines(out: &mut [u8; ROOM], x: Cluster, bytes: &[u8]) -> usize {
+    let k = put_records(out, x, bytes);
     let k = room(out, k);
-    put_end(out, k, replay(fresh(), bytes))
+    put_end(out, k, replay(x, bytes))
 }
 
-pub fn inspect(bytes: &[u8]) {
+// A cluster with a bad preference runs no record.
+fn put_all(out: &mut [u8; ROOM], made: Outcome, bytes: &[u8]) -> usize {
+    let a = made.answer;
+    let handling = made.handling;
+    let cluster = made.cluster;
+    match a {
+        Answer::Accepted => put_lines(out, cluster, bytes),
+        Answer::Refused(_) => put_end(
+            out,
+            0,
+            Replayed {
+                answer: a,
+                records: 0,
+                handling,
+                cluster,
+            },
+        ),
+    }
+}
+
+pub fn inspect(preference: u8, bytes: &[u8]) {
     let mut out = [0u8; ROOM];
-    let k = put_lines(&mut out, bytes);
+    let k = put_all(&mut out, fresh(preference), bytes);
     write(&out, k);
 }

@@ -82,16 +82,23 @@ fn put_lock(out: &mut [u8], at: usize, x: Cluster, l: LockId) -> usize {
     }
 }
 
-// The line of the record with number n, whose call gave the outcome.
-pub fn put_record(out: &mut [u8], at: usize, n: u16, c: Call, o: Outcome) -> usize {
+// The outcome of a call on the lock l.
+fn put_outcome(out: &mut [u8], at: usize, o: Outcome, l: LockId) -> usize {
     let a = o.answer;
     let h = o.handling;
+    let x = o.cluster;
+    let k = put_field(out, at, b",\"answer\":", a.number() as u16);
+    let k = put_handling(out, k, h);
+    let k = put_field(out, k, b",\"preference\":", x.preference as u16);
+    let k = put_text(out, k, b",\"state\":");
+    put_lock(out, k, x, l)
+}
+
+// The line of the record with number n, whose call gave the outcome.
+pub fn put_record(out: &mut [u8], at: usize, n: u16, c: Call, o: Outcome) -> usize {
     let k = put_field(out, at, b"{\"n\":", n);
     let k = put_call(out, k, c);
-    let k = put_field(out, k, b",\"answer\":", a.number() as u16);
-    let k = put_handling(out, k, h);
-    let k = put_text(out, k, b",\"state\":");
-    let k = put_lock(out, k, o.cluster, lock_of(c));
+    let k = put_outcome(out, k, o, lock_of(c));
     put_text(out, k, b"}\n")
 }
 
@@ -120,19 +127,26 @@ fn put_ending(out: &mut [u8], at: usize, answer: u8) -> usize {
     match answer {
         0 => put_text(out, at, b"{\"end\":\"end\""),
         13 => put_text(out, at, b"{\"end\":\"too long\""),
+        16 => put_text(out, at, b"{\"end\":\"bad preference\""),
         _ => put_text(out, at, b"{\"end\":\"bad record\""),
     }
 }
 
-pub fn put_end(out: &mut [u8], at: usize, r: Replayed) -> usize {
+// What the run came to, by its number and in counts.
+fn put_run(out: &mut [u8], at: usize, r: Replayed) -> usize {
     let a = r.answer;
     let h = r.handling;
-    let x = r.cluster;
     let answer = a.number();
     let k = put_ending(out, at, answer);
     let k = put_field(out, k, b",\"answer\":", answer as u16);
     let k = put_field(out, k, b",\"records\":", r.records);
-    let k = put_handling(out, k, h);
+    put_handling(out, k, h)
+}
+
+pub fn put_end(out: &mut [u8], at: usize, r: Replayed) -> usize {
+    let x = r.cluster;
+    let k = put_run(out, at, r);
+    let k = put_field(out, k, b",\"preference\":", x.preference as u16);
     let k = put_text(out, k, b",\"drains\":[");
     let k = put_drains(out, k, x);
     put_text(out, k, b"]}\n")

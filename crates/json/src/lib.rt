@@ -69,6 +69,8 @@ fn put_decider(out: &mut [u8], at: usize, d: Decider) -> usize {
     let k = put_text(out, at, b"{");
     let k = put_owner(out, k, o);
     let k = put_field(out, k, b",\"incarnation\":", d.incarnation as u16);
+    let k = put_text(out, k, b",\"writer\":");
+    let k = put_bool(out, k, d.writer);
     put_text(out, k, b"}")
 }
 

@@ -18,17 +18,21 @@ use Rattle.model.specs.Refusals.{refusalNumber, Cause, _when_, first}
 use Rattle.model.specs.Calls.{isIdle, isHolding, names, acquireStep, releaseStep, takes, deliverStep, refusing}
 use Rattle.model.specs.Calls.{settled, unless, acquire, release, deliver, perform, lockOf}
 use Rattle.laws.specs.Tests.{and-left, and-right, bool-cases, pick-by}
-use Rattle.laws.specs.Formed.{all-locks}
+use Rattle.laws.specs.Formed.{cells}
 
--- ---- a call's step on its lock's state
-abbrev pub stepOf : Call → LockState → Stepped
-stepOf (AcquireCall l k t m) s = acquireStep s (clientOf k t) (modeOf m)
-stepOf (ReleaseCall l k t) s = releaseStep s (clientOf k t)
-stepOf (DeliverCall l i) s = deliverStep s i
+-- ---- a call's step on its lock's state, in a cluster with the preference n
+abbrev pub stepOf : ℕ → Call → LockState → Stepped
+stepOf n (AcquireCall l k t m) s = acquireStep n s (clientOf k t) (modeOf m)
+stepOf n (ReleaseCall l k t) s = releaseStep n s (clientOf k t)
+stepOf n (DeliverCall l i) s = deliverStep n s i
+
+-- in its cluster
+abbrev pub stepIn : Call → Cluster → Stepped
+stepIn c x = stepOf (x .preference) c (lockIn x (lockOf c))
 
 -- the step's outcome, put back into the cluster
 abbrev pub outcomeOf : Call → Cluster → Outcome
-outcomeOf c x = settled (stepOf c (lockIn x (lockOf c)) .answer) x (lockOf c) (stepOf c (lockIn x (lockOf c)))
+outcomeOf c x = settled (stepIn c x .answer) x (lockOf c) (stepIn c x)
 
 -- what the passed tests say of the lock's state
 pub data Allowed : Call → LockState → Type 0 where
@@ -67,7 +71,7 @@ tested ((r when false) ∷ cs) e = go (tested cs (and-right (early (r when false
 
 -- with every cause false, the call is its step
 cases-by : (c : Call) (x : Cluster) (cs : List Cause) → wellFormed x ≡ true → all early cs ≡ true
-    → perform c x ≡ unless (first ((Malformed when not (wellFormed x)) ∷ cs)) x (lockOf c) (stepOf c (lockIn x (lockOf c)))
+    → perform c x ≡ unless (first ((Malformed when not (wellFormed x)) ∷ cs)) x (lockOf c) (stepIn c x)
     → (NoneHolds cs → (lockOf c .0 < locks) × Allowed c (lockIn x (lockOf c))) → CallCases c x
 unfolding first unless
 cases-by c x cs w e q g = go (tested cs e)
@@ -115,6 +119,23 @@ unfolding unless
 unless-elsewhere Accepted x l t j n = settled-elsewhere (t .answer) x l t j n
 unless-elsewhere (Refused r) x l t j n = refl
 
+-- and no call changes the preference
+settled-preference : (a : Answer) (x : Cluster) (l : LockId) (t : Stepped) → settled a x l t .cluster .preference ≡ x .preference
+unfolding settled
+settled-preference Accepted x l t = refl
+settled-preference (Refused r) x l t = refl
+
+unless-preference : (a : Answer) (x : Cluster) (l : LockId) (t : Stepped) → unless a x l t .cluster .preference ≡ x .preference
+unfolding unless
+unless-preference Accepted x l t = settled-preference (t .answer) x l t
+unless-preference (Refused r) x l t = refl
+
+pub perform-preference : (c : Call) (x : Cluster) → perform c x .cluster .preference ≡ x .preference
+unfolding perform acquire release deliver
+perform-preference (AcquireCall l k t m) x = unless-preference _ x l _
+perform-preference (ReleaseCall l k t) x = unless-preference _ x l _
+perform-preference (DeliverCall l i) x = unless-preference _ x l _
+
 pub perform-elsewhere : (c : Call) (x : Cluster) (j : LockId) → (j .0 ≡ lockOf c .0 → ⊥) → lockIn (perform c x .cluster) j ≡ lockIn x j
 unfolding perform acquire release deliver
 perform-elsewhere (AcquireCall l k t m) x j n = unless-elsewhere _ x l _ j n
@@ -150,11 +171,11 @@ telling-none k c w rest s =
     let t = finish k c w rest s in
     ap (λ (h : Handling). record { answer = t .answer; handling = h; state = t .state }) (told-none (t .answer) refl ∙ sym (finish-tells k c w rest s))
 
-pub step-refused : (c : Call) (s : LockState) (r : Refusal) → stepOf c s .answer ≡ Refused r → stepOf c s ≡ refused r s
+pub step-refused : (n : ℕ) (c : Call) (s : LockState) (r : Refusal) → stepOf n c s .answer ≡ Refused r → stepOf n c s ≡ refused r s
 unfolding acquireStep releaseStep deliverStep takes
-step-refused (AcquireCall l k t m) s r e = finish-refused _ _ _ (packets (s .wire)) s r e
-step-refused (ReleaseCall l k t) s r e = finish-refused _ _ _ (packets (s .wire)) s r e
-step-refused (DeliverCall l i) s r e = ap (telling _) (finish-refused _ _ _ (removed (packets (s .wire)) i) s r e)
+step-refused n (AcquireCall l k t m) s r e = finish-refused _ _ _ (packets (s .wire)) s r e
+step-refused n (ReleaseCall l k t) s r e = finish-refused _ _ _ (packets (s .wire)) s r e
+step-refused n (DeliverCall l i) s r e = ap (telling _) (finish-refused _ _ _ (removed (packets (s .wire)) i) s r e)
 
 settled-here : (a : Answer) (x : Cluster) (l : LockId) (t : Stepped) → l .0 < length (x .locks) → ((r : Refusal) → a ≡ Refused r → t ≡ refused r (lockIn x l))
     → lockIn (settled a x l t .cluster) l ≡ t .state
@@ -168,8 +189,8 @@ settled-answer Accepted x l t = refl
 settled-answer (Refused r) x l t = refl
 
 pub perform-here : (c : Call) (x : Cluster) → wellFormed x ≡ true → lockOf c .0 < locks → perform c x ≡ outcomeOf c x
-    → lockIn (perform c x .cluster) (lockOf c) ≡ stepOf c (lockIn x (lockOf c)) .state
-perform-here c x w h e = rw e (settled-here _ x (lockOf c) _ (rw (all-locks x w) h) (step-refused c (lockIn x (lockOf c))))
+    → lockIn (perform c x .cluster) (lockOf c) ≡ stepIn c x .state
+perform-here c x w h e = rw e (settled-here _ x (lockOf c) _ (rw (cells x w .all-locks) h) (step-refused (x .preference) c (lockIn x (lockOf c))))
 
 -- ---- An accepted call passed every test, and its step is accepted.
 pub not-accepted : {r : Refusal} → Refused r ≡ Accepted → ⊥
@@ -180,7 +201,7 @@ pub record Passes (c : Call) (x : Cluster) : Type 0 where
   pub inside : lockOf c .0 < locks
   pub allowed : Allowed c (lockIn x (lockOf c))
   pub call : perform c x ≡ outcomeOf c x
-  pub step : stepOf c (lockIn x (lockOf c)) .answer ≡ Accepted
+  pub step : stepIn c x .answer ≡ Accepted
 
 malformed : (c : Call) (x : Cluster) → wellFormed x ≡ false → perform c x .answer ≡ Refused Malformed
 unfolding perform acquire release deliver unless first
@@ -197,6 +218,6 @@ passes c x e = go (call-cases c x w)
     go : CallCases c x → Passes c x
     go (denied r m n q) = absurd (not-accepted (sym (ap (λ (o : Outcome). o .answer) q) ∙ e))
     go (passed h a q) =
-        let s = stepOf c (lockIn x (lockOf c)) in
+        let s = stepIn c x in
         let f : s .answer ≡ Accepted = sym (settled-answer (s .answer) x (lockOf c) s) ∙ sym (ap (λ (o : Outcome). o .answer) q) ∙ e in
         record { formed = w; inside = h; allowed = a; call = q; step = f }

@@ -6,15 +6,15 @@ use Prim.Native.Nat.{ℕ, _-_, _<_, _≤_}
 use native.Mathlib.Omega.{arith}
 use lib.ListN.{length, take, drop, getD, replicate, length-drop, take-append-drop}
 use lib.Seq.{length-take-le}
-use lib.Dec.{eqb, leb}
+use lib.Dec.{eqb, leb, ltb}
 use borrow.Author.Tests.{eqb-true, leb-true, not-true}
 use Rattle.model.specs.Lists.{all, padded}
 use Rattle.laws.specs.Names.{LockId, MachineId, Mode, Exclusive, Shared, Address, ToDecider, ToMachine, Message, Free, Acquire, Grant, Release, Waiter}
 use Rattle.laws.specs.Names.{Queue, Agent, AgentSlot, Packet, Wire, LockState, Cluster}
 use Rattle.model.specs.States.{blankPacket, blankWaiter, packets, agentOn, noAgent, newAgent, queueOf, noHolders, isShared, freshLock, lockIn, locks, machines}
-use Rattle.model.specs.States.{clients, queueCapacity, wireCapacity}
+use Rattle.model.specs.States.{clients, queueCapacity, wireCapacity, preferences}
 use Rattle.model.specs.WellFormed.{shaped, isBlankWaiter, distinct, queueFormed, agentFormed, isBlankAgent, slotBy, slotFormed, isFree, toDecider}
-use Rattle.model.specs.WellFormed.{isBlankPacket, messageFormed, addressInRange, packetFormed, wireFormed, ownerInRange, lockFormed, wellFormed}
+use Rattle.model.specs.WellFormed.{isBlankPacket, messageFormed, addressInRange, packetFormed, wireFormed, deciderFormed, lockFormed, wellFormed}
 use Rattle.model.specs.Calls.{packetAt}
 use Rattle.laws.specs.Tests.{and-left, and-right}
 use Rattle.laws.specs.Lists.{getD-any, all-at, all-getD, all-same, Canonical}
@@ -136,23 +136,23 @@ whole-packet p e =
     record { message = and-left _ _ e; address = and-left _ _ e1; carried = and-right (addressInRange (p .to)) _ e1 }
 
 -- ---- the parts of a well-formed lock
-pub record Parts (s : LockState) : Type 0 where
-  pub owner : ownerInRange (s .decider .owner) ≡ true
+pub record Parts (n : ℕ) (s : LockState) : Type 0 where
+  pub decider : deciderFormed n (s .decider) ≡ true
   pub all-machines : length (s .agents) ≡ machines
   pub agents : all slotFormed (s .agents) ≡ true
   pub all-clients : length (s .clients) ≡ clients
   pub wire : wireFormed (s .wire) ≡ true
   pub packets : all packetFormed (packets (s .wire)) ≡ true
 
-pub parts : (s : LockState) → lockFormed s ≡ true → Parts s
+pub parts : {n : ℕ} (s : LockState) → lockFormed n s ≡ true → Parts n s
 unfolding lockFormed wireFormed packets
-parts s e =
-    let e1 = and-right (ownerInRange (s .decider .owner)) _ e in
+parts {n} s e =
+    let e1 = and-right (deciderFormed n (s .decider)) _ e in
     let e2 = and-right (eqb (length (s .agents)) machines) _ e1 in
     let e3 = and-right (all slotFormed (s .agents)) _ e2 in
     let w : wireFormed (s .wire) ≡ true = and-right (eqb (length (s .clients)) clients) _ e3 in
     record {
-      owner = and-left _ _ e;
+      decider = and-left (deciderFormed n (s .decider)) _ e;
       all-machines = eqb-true (length (s .agents)) machines (and-left _ _ e1);
       agents = and-left _ _ e2;
       all-clients = eqb-true (length (s .clients)) clients (and-left _ _ e3);
@@ -160,14 +160,14 @@ parts s e =
       packets = and-right (shaped wireCapacity isBlankPacket (s .wire .slots) (s .wire .len)) _ w;
     }
 
-pub agent-on : {s : LockState} → Parts s → (k : MachineId) → slotFormed (agentOn s k) ≡ true
-agent-on {s} p k = all-getD slotFormed (s .agents) (k .0) noAgent (p .agents) no-agent-formed
+pub agent-on : {n : ℕ} {s : LockState} → Parts n s → (k : MachineId) → slotFormed (agentOn s k) ≡ true
+agent-on {s = s} p k = all-getD slotFormed (s .agents) (k .0) noAgent (p .agents) no-agent-formed
 
-pub packet-at : {s : LockState} → Parts s → (i : ℕ) → i < length (packets (s .wire)) → Whole (packetAt s i)
-packet-at {s} p i h = whole-packet (packetAt s i) (all-at packetFormed (packets (s .wire)) i blankPacket (p .packets) h)
+pub packet-at : {n : ℕ} {s : LockState} → Parts n s → (i : ℕ) → i < length (packets (s .wire)) → Whole (packetAt s i)
+packet-at {s = s} p i h = whole-packet (packetAt s i) (all-at packetFormed (packets (s .wire)) i blankPacket (p .packets) h)
 
-pub ready : (s : LockState) → lockFormed s ≡ true → Ready s
-ready s e =
+pub ready : (n : ℕ) (s : LockState) → lockFormed n s ≡ true → Ready s
+ready n s e =
     let p = parts s e in
     record {
       wire = wire-canonical (s .wire) (p .wire);
@@ -175,18 +175,28 @@ ready s e =
       carried = λ i h. slot-canonical (packetAt s i .carried) (packet-at p i h .carried);
     }
 
--- ---- the locks of a well-formed cluster
-pub all-locks : (x : Cluster) → wellFormed x ≡ true → length (x .locks) ≡ locks
-unfolding wellFormed
-all-locks x w = eqb-true _ locks (and-left (eqb (length (x .locks)) locks) _ w)
+-- ---- the parts of a well-formed cluster
+pub record Cells (x : Cluster) : Type 0 where
+  pub preference : ltb (x .preference) preferences ≡ true
+  pub all-locks : length (x .locks) ≡ locks
+  pub locks : all (lockFormed (x .preference)) (x .locks) ≡ true
 
-pub lock-formed : (x : Cluster) (l : LockId) → wellFormed x ≡ true → l .0 < locks → lockFormed (lockIn x l) ≡ true
+pub cells : (x : Cluster) → wellFormed x ≡ true → Cells x
 unfolding wellFormed
-lock-formed x l w h = all-at lockFormed (x .locks) (l .0) freshLock (and-right (eqb (length (x .locks)) locks) _ w) (omega (arith, all-locks x w))
+cells x w =
+    let e = and-right (ltb (x .preference) preferences) _ w in
+    record {
+      preference = and-left _ _ w;
+      all-locks = eqb-true _ locks (and-left (eqb (length (x .locks)) locks) _ e);
+      locks = and-right (eqb (length (x .locks)) locks) _ e;
+    }
+
+pub lock-formed : (x : Cluster) (l : LockId) → wellFormed x ≡ true → l .0 < locks → lockFormed (x .preference) (lockIn x l) ≡ true
+lock-formed x l w h = all-at (lockFormed (x .preference)) (x .locks) (l .0) freshLock (cells x w .locks) (omega (arith, cells x w .all-locks))
 
 -- the lock's state as code reads it, with any default
 pub lock-read : (x : Cluster) (l : LockId) (d : LockState) → wellFormed x ≡ true → l .0 < locks → getD (x .locks) (l .0) d ≡ lockIn x l
-lock-read x l d e h = getD-any (x .locks) (l .0) d freshLock (omega (arith, all-locks x e, h))
+lock-read x l d e h = getD-any (x .locks) (l .0) d freshLock (omega (arith, cells x e .all-locks, h))
 
-pub read-formed : (x : Cluster) (l : LockId) (d : LockState) → wellFormed x ≡ true → l .0 < locks → lockFormed (getD (x .locks) (l .0) d) ≡ true
+pub read-formed : (x : Cluster) (l : LockId) (d : LockState) → wellFormed x ≡ true → l .0 < locks → lockFormed (x .preference) (getD (x .locks) (l .0) d) ≡ true
 read-formed x l d e h = rw (lock-read x l d e h) (lock-formed x l e h)

@@ -227,7 +227,7 @@ fn marked_arrives(v: Site, a: Agent, c: ClientId) -> Effect
 }
 
 fn unmarked_arrives(v: Site, a: Agent, c: ClientId, m: Mode) -> Effect
-    requires { ⌜ CanonicalQueue (a .queue) ⌝ }
+    requires { ⌜ (CanonicalQueue (v .slot .agent .queue)) × (CanonicalQueue (a .queue)) ⌝ }
     ensures { λ r. ⌜ verdictOf r ≡ unmarked v a c m ⌝ }
 {
     if may_join(v, m) {

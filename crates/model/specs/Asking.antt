@@ -1,6 +1,6 @@
 -- What a client's own calls do (document 01, "Asking and handing back"; Figure 6 of the source). An agent on the client's machine serves it there;
 -- else the decider is asked.
-use mathlib.Core.Bool.{Bool, true, false, _&&_, _||_}
+use mathlib.Core.Bool.{Bool, true, false, _&&_, _||_, not}
 use mathlib.Core.List.{List, [], _∷_, _++_}
 use Prim.Native.Nat.{ℕ}
 use lib.ListN.{length, set}
@@ -8,7 +8,7 @@ use lib.Dec.{leb}
 use Rattle.model.specs.Lists.{pick, any}
 use Rattle.model.specs.Names.{ClientId, Mode, Waiter, Queue, Agent, AgentSlot, ToDecider, Message, Free, Acquire, Grant, Release, Packet, Idle, Waiting}
 use Rattle.model.specs.Names.{Holding, Site}
-use Rattle.model.specs.States.{queueCapacity, queueOf, waiters, someAgent, noAgent, listed, plain, carrying, isShared}
+use Rattle.model.specs.States.{queueCapacity, queueOf, waiters, someAgent, noAgent, listed, plain, carrying, isShared, prefersWriters}
 use Rattle.model.specs.WellFormed.{isClient}
 use Rattle.model.specs.Changes.{Verdict, cannot-place, does, withSlot, withStatus}
 
@@ -31,9 +31,17 @@ noRoom a c = any (isClient c) (waiters (a .queue)) || leb queueCapacity (length 
 abbrev pub withRoom : Agent → ClientId → Verdict → Verdict
 withRoom a c w = pick (noRoom a c) cannot-place w
 
--- may a request join the holders of the site's agent: only a shared one, and only where the agent is shared too
+-- a writer, who asks exclusively, waits in the agent's queue
+abbrev pub isWriter : Waiter → Bool
+isWriter w = not (isShared (w .mode))
+
+abbrev pub writerIn : Agent → Bool
+writerIn a = any isWriter (waiters (a .queue))
+
+-- May a request join the holders of the site's agent: only a shared one, and only where the agent is shared too. Where writers are preferred, it must
+-- not pass one in the queue.
 unfoldable pub mayJoin : Site → Mode → Bool
-mayJoin v m = isShared (v .slot .agent .mode) && isShared m
+mayJoin v m = isShared (v .slot .agent .mode) && (isShared m && not (prefersWriters (v .preference) && writerIn (v .slot .agent)))
 
 -- A client acquires. At an agent it holds at once, if it may join, or queues up: no packet is sent, and the agent counts no grant. Without an agent
 -- here it sends its request to the decider. The Bool: the agent a is there.

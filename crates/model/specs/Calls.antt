@@ -3,13 +3,14 @@ use mathlib.Core.Bool.{Bool, true, false, _||_, not}
 use mathlib.Core.List.{List, [], _∷_}
 use Prim.Native.Nat.{ℕ}
 use lib.ListN.{length, getD, set}
-use lib.Dec.{eqb, leb}
-use Rattle.model.specs.Lists.{any, removed}
+use lib.Dec.{eqb, leb, ltb}
+use Rattle.model.specs.Lists.{pick, any, removed}
 use Rattle.model.specs.Names.{LockId, MachineId, TaskId, ClientId, Mode, Address, ToDecider, ToMachine, Message, Free, Acquire, Grant, Release, Packet}
 use Rattle.model.specs.Names.{Status, Idle, Waiting, Holding, LockState, Cluster, Call, AcquireCall, ReleaseCall, DeliverCall, Malformed, LockRange}
-use Rattle.model.specs.Names.{MachineRange, TaskRange, ModeRange, NotIdle, StillNamed, NotHolding, IndexRange, Refusal, Answer, Accepted, Refused}
-use Rattle.model.specs.Names.{AgentSlot, Handling, None, NoAgent, NotHolder, Taken, Stepped, Outcome, Site}
-use Rattle.model.specs.States.{locks, machines, tasks, clientOf, machineOf, modeOf, statusOf, agentOn, packets, blankPacket, lockIn, fresh}
+use Rattle.model.specs.Names.{MachineRange, TaskRange, ModeRange, NotIdle, StillNamed, NotHolding, IndexRange, PreferenceRange, Refusal, Answer, Accepted}
+use Rattle.model.specs.Names.{Refused, AgentSlot, Handling, None, NoAgent, NotHolder, Taken, Stepped, Outcome, Site}
+use Rattle.model.specs.States.{locks, machines, tasks, clientOf, machineOf, modeOf, statusOf, agentOn, packets, blankPacket, lockIn, freshWith}
+use Rattle.model.specs.States.{preferences}
 use Rattle.model.specs.WellFormed.{wellFormed}
 use Rattle.model.specs.Changes.{siteOf, Verdict, finish, telling}
 use Rattle.model.specs.Asking.{clientAcquires, clientReleases}
@@ -63,21 +64,21 @@ clientNamed Free = record { 0 = 0 }
 abbrev pub packetAt : LockState → ℕ → Packet
 packetAt s i = getD (packets (s .wire)) i blankPacket
 
--- The steps on one lock's state: the rules, with refusals 9 and 10. A client's own call is about its machine and itself.
-unfoldable pub acquireStep : LockState → ClientId → Mode → Stepped
-acquireStep s c m = finish (machineOf c) c (clientAcquires (siteOf s (machineOf c) c) c m) (packets (s .wire)) s
+-- The steps on one lock's state, in a cluster with the preference n: the rules, with refusals 9 and 10. A client's own call is about its machine and itself.
+unfoldable pub acquireStep : ℕ → LockState → ClientId → Mode → Stepped
+acquireStep n s c m = finish (machineOf c) c (clientAcquires (siteOf n s (machineOf c) c) c m) (packets (s .wire)) s
 
-unfoldable pub releaseStep : LockState → ClientId → Stepped
-releaseStep s c = finish (machineOf c) c (clientReleases (siteOf s (machineOf c) c) c) (packets (s .wire)) s
+unfoldable pub releaseStep : ℕ → LockState → ClientId → Stepped
+releaseStep n s c = finish (machineOf c) c (clientReleases (siteOf n s (machineOf c) c) c) (packets (s .wire)) s
 
 -- the packet p is taken off the wire, which keeps the rest
-unfoldable pub takes : LockState → Packet → List Packet → Stepped
-takes s p rest =
+unfoldable pub takes : ℕ → LockState → Packet → List Packet → Stepped
+takes n s p rest =
     telling (handledAt (p .to) (p .message) (agentOn s (machineAt (p .to)))) (finish (machineAt (p .to)) (clientNamed (p .message))
-    (delivers (p .to) (siteOf s (machineAt (p .to)) (clientNamed (p .message))) p) rest s)
+    (delivers (p .to) (siteOf n s (machineAt (p .to)) (clientNamed (p .message))) p) rest s)
 
-unfoldable pub deliverStep : LockState → ℕ → Stepped
-deliverStep s i = takes s (packetAt s i) (removed (packets (s .wire)) i)
+unfoldable pub deliverStep : ℕ → LockState → ℕ → Stepped
+deliverStep n s i = takes n s (packetAt s i) (removed (packets (s .wire)) i)
 
 -- The causes of each call, in the order of their tests: of the cluster, of the call's numbers, of the lock's state. 9 and 10 come last, with the step.
 abbrev pub idleTests : LockState → ClientId → List Cause
@@ -107,8 +108,11 @@ abbrev pub refusing : Refusal → Cluster → Outcome
 refusing r x = record { answer = Refused r; handling = None; cluster = x }
 
 -- the lock's state after the step is put in its place
+abbrev pub withLock : Cluster → LockId → LockState → Cluster
+withLock x l s = record { preference = x .preference; locks = set (x .locks) (l .0) s }
+
 unfoldable pub settled : Answer → Cluster → LockId → Stepped → Outcome
-settled Accepted x l t = record { answer = Accepted; handling = t .handling; cluster = record { locks = set (x .locks) (l .0) (t .state) } }
+settled Accepted x l t = record { answer = Accepted; handling = t .handling; cluster = withLock x l (t .state) }
 settled (Refused r) x l t = refusing r x
 
 unfoldable pub unless : Answer → Cluster → LockId → Stepped → Outcome
@@ -116,13 +120,13 @@ unless Accepted x l t = settled (t .answer) x l t
 unless (Refused r) x l t = refusing r x
 
 unfoldable pub acquire : Cluster → LockId → MachineId → TaskId → ℕ → Outcome
-acquire x l k t m = unless (first (causes x l (acquireTests (lockIn x l) k t m))) x l (acquireStep (lockIn x l) (clientOf k t) (modeOf m))
+acquire x l k t m = unless (first (causes x l (acquireTests (lockIn x l) k t m))) x l (acquireStep (x .preference) (lockIn x l) (clientOf k t) (modeOf m))
 
 unfoldable pub release : Cluster → LockId → MachineId → TaskId → Outcome
-release x l k t = unless (first (causes x l (releaseTests (lockIn x l) k t))) x l (releaseStep (lockIn x l) (clientOf k t))
+release x l k t = unless (first (causes x l (releaseTests (lockIn x l) k t))) x l (releaseStep (x .preference) (lockIn x l) (clientOf k t))
 
 unfoldable pub deliver : Cluster → LockId → ℕ → Outcome
-deliver x l i = unless (first (causes x l (deliverTests (lockIn x l) i))) x l (deliverStep (lockIn x l) i)
+deliver x l i = unless (first (causes x l (deliverTests (lockIn x l) i))) x l (deliverStep (x .preference) (lockIn x l) i)
 
 -- A call as data, and the lock that it is about.
 unfoldable pub perform : Call → Cluster → Outcome
@@ -135,6 +139,10 @@ lockOf (AcquireCall l k t m) = l
 lockOf (ReleaseCall l k t) = l
 lockOf (DeliverCall l i) = l
 
+-- Making a cluster is answered too: with the preference n, or refused with one that prefers readers.
+unfoldable pub fresh : ℕ → Outcome
+fresh n = pick (ltb n preferences) (record { answer = Accepted; handling = None; cluster = freshWith n }) (refusing PreferenceRange (freshWith 0))
+
 -- Calls one after another, each on the cluster that the one before left.
 unfoldable pub run : List Call → Cluster → Cluster
 run [] x = x
@@ -145,9 +153,9 @@ abbrev pub answersOf : List Call → Cluster → List Answer
 answersOf [] x = []
 answersOf (c ∷ cs) x = perform c x .answer ∷ answersOf cs (perform c x .cluster)
 
--- and all of them from a fresh cluster
-abbrev pub after : List Call → Cluster
-after cs = run cs fresh
+-- and all of them from a fresh cluster, made with the preference n as given
+abbrev pub after : ℕ → List Call → Cluster
+after n cs = run cs (fresh n .cluster)
 
 -- The handlings that the calls of a list tell, in its order, and the last of these: the one told before them where they tell none.
 abbrev pub handlingsOf : List Call → Cluster → List Handling

@@ -1,7 +1,7 @@
 -- A step is about one machine and one client, fixed before its rule runs. It takes a packet off the wire or none, writes the decider,
 -- the machine's agent and the client's status, and appends packets: nothing else moves.
 use mathlib.Core.List.{List, _++_}
-use Prim.Native.Nat.{_+_}
+use Prim.Native.Nat.{ℕ, _+_}
 use lib.ListN.{length, set}
 use lib.Dec.{leb}
 use Rattle.model.specs.Lists.{pick}
@@ -9,18 +9,18 @@ use Rattle.model.specs.Names.{MachineId, ClientId, Decider, AgentSlot, P
 use Rattle.model.specs.Names.{Answer, Accepted, Refused, Handling, None, Stepped}
 use Rattle.model.specs.States.{wireCapacity, wireOf, agentOn, statusOf}
 
--- The site: what a rule looks at and may write.
-abbrev pub siteOf : LockState → MachineId → ClientId → Site
-siteOf s k c = record { decider = s .decider; slot = agentOn s k; status = statusOf s c }
+-- The site: what a rule looks at and, but for the preference, may write.
+abbrev pub siteOf : ℕ → LockState → MachineId → ClientId → Site
+siteOf n s k c = record { preference = n; decider = s .decider; slot = agentOn s k; status = statusOf s c }
 
 abbrev pub withDecider : Site → Decider → Site
-withDecider v d = record { decider = d; slot = v .slot; status = v .status }
+withDecider v d = record { preference = v .preference; decider = d; slot = v .slot; status = v .status }
 
 abbrev pub withSlot : Site → AgentSlot → Site
-withSlot v x = record { decider = v .decider; slot = x; status = v .status }
+withSlot v x = record { preference = v .preference; decider = v .decider; slot = x; status = v .status }
 
 abbrev pub withStatus : Site → Status → Site
-withStatus v st = record { decider = v .decider; slot = v .slot; status = st }
+withStatus v st = record { preference = v .preference; decider = v .decider; slot = v .slot; status = st }
 
 -- A rule says that the step cannot be placed, or gives the site after it and the packets sent.
 pub data Verdict : Type 0 where

@@ -69,7 +69,7 @@ unfoldable pub linesUnless : Answer → Cluster → List ℕ → List ℕ
 linesUnless (Refused r) x bytes = refusedLine 0 r
 linesUnless Accepted x bytes = linesFrom (length bytes + 1) bytes 0 0 x
 
--- The listing of a transcript that is run on x. The program's is that of a fresh cluster.
+-- The listing of a transcript that is run on x. The program's is that of a fresh cluster that prefers readers.
 unfoldable pub listing : Cluster → List ℕ → List ℕ
 listing x bytes = header ++ linesUnless (first (replayTests x bytes)) x bytes
 

@@ -12,6 +12,7 @@ pub use Rattle.model.specs.declared.{Reading.Reading, Reading.the-varian
 pub use Rattle.model.specs.declared.{Refusal.Refusal}
 pub use Rattle.model.specs.declared.{Refusal.the-variants.{Malformed, LockRange, MachineRange, TaskRange, ModeRange, NotIdle, StillNamed, NotHolding}}
 pub use Rattle.model.specs.declared.{Refusal.the-variants.{IndexRange, CannotPlace, WireFull, BadRecord, TranscriptLength, NotQuiescent, NotWaiting}}
+pub use Rattle.model.specs.declared.{Refusal.the-variants.{PreferenceRange}}
 pub use Rattle.model.specs.declared.{Answer.Answer, Answer.the-variants.{Accepted, Refused}}
 pub use Rattle.model.specs.declared.{Reason.Reason, Reason.the-variants.{Requested, Granted, Rejected, Queued, Carried}}
 pub use Rattle.model.specs.declared.{ReasonAnswer.ReasonAnswer, ReasonAnswer.the-variants.{Because, Refused as NoReason}}

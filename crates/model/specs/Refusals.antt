@@ -3,7 +3,7 @@ use mathlib.Core.Bool.{Bool, true, false}
 use mathlib.Core.List.{List, [], _∷_}
 use Prim.Native.Nat.{ℕ}
 use Rattle.model.specs.Names.{Refusal, Malformed, LockRange, MachineRange, TaskRange, ModeRange, NotIdle, StillNamed, NotHolding, IndexRange, CannotPlace}
-use Rattle.model.specs.Names.{WireFull, BadRecord, TranscriptLength, NotQuiescent, NotWaiting, Answer, Accepted, Refused}
+use Rattle.model.specs.Names.{WireFull, BadRecord, TranscriptLength, NotQuiescent, NotWaiting, PreferenceRange, Answer, Accepted, Refused}
 
 abbrev pub refusalNumber : Refusal → ℕ
 -- the cluster is not well formed
@@ -36,6 +36,8 @@ refusalNumber TranscriptLength = 13
 refusalNumber NotQuiescent = 14
 -- the client does not wait for this lock, or no reason for it is found
 refusalNumber NotWaiting = 15
+-- a preference is for readers or for writers
+refusalNumber PreferenceRange = 16
 
 -- 0 is the number of Accepted alone.
 abbrev pub number : Answer → ℕ

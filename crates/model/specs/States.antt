@@ -105,15 +105,22 @@ wireOf ps = record { slots = padded wireCapacity blankPacket ps; len = length ps
 unfoldable pub packets : Wire → List Packet
 packets w = take (w .len) (w .slots)
 
--- A fresh cluster: nobody owns, holds or asks for a lock, and nothing is under way.
+-- A fresh cluster: nobody owns, holds or asks for a lock, and nothing is under way. Its preference is as given.
 abbrev pub unowned : Decider
-unowned = record { owner = Unowned; incarnation = 0 }
+unowned = record { owner = Unowned; incarnation = 0; writer = false }
 
 unfoldable pub freshLock : LockState
 freshLock = record { decider = unowned; agents = replicate machines noAgent; clients = replicate clients idle; wire = wireOf [] }
 
-unfoldable pub fresh : Cluster
-fresh = record { locks = replicate locks freshLock }
+unfoldable pub freshWith : ℕ → Cluster
+freshWith n = record { preference = n; locks = replicate locks freshLock }
+
+-- A cluster prefers readers, with the number 0, or writers, with 1 (request 5 of document 02; section 6 of the source).
+abbrev pub preferences : ℕ
+preferences = 2
+
+abbrev pub prefersWriters : ℕ → Bool
+prefersWriters n = eqb n 1
 
 abbrev pub lockIn : Cluster → LockId → LockState
 lockIn x l = getD (x .locks) (l .0) freshLock

@@ -7,9 +7,9 @@ use lib.Dec.{eqb}
 use Rattle.model.specs.Lists.{pick}
 use Rattle.model.specs.Names.{LockId, ClientId, Mode, Address, ToDecider, ToMachine, Message, Free, Acquire, Grant, Release, Packet, Status, Idle}
 use Rattle.model.specs.Names.{Waiting, Holding, Cluster, Call, AcquireCall, ReleaseCall, DeliverCall, Answer, Accepted, Refused}
-use Rattle.model.specs.States.{modeOf, clientOf, machineOf, agentOn, lockIn, fresh}
+use Rattle.model.specs.States.{modeOf, clientOf, machineOf, agentOn, lockIn}
 use Rattle.model.specs.Asking.{lists}
-use Rattle.model.specs.Calls.{packetAt, perform}
+use Rattle.model.specs.Calls.{packetAt, perform, fresh}
 
 -- What one client has seen of one lock: its phase, and how many grants it was shown.
 pub record View : Type 0 where
@@ -79,9 +79,9 @@ watch l c [] x v = v
 watch l c (a ∷ cs) x v =
     watch l c cs (perform a x .cluster) (pick (isAccepted (perform a x .answer)) (sees l c a x (perform a x .cluster) v) v)
 
--- the phase after a list of calls from a fresh cluster
-abbrev pub phaseAfter : LockId → ClientId → List Call → Status
-phaseAfter l c cs = watch l c cs fresh unseen .phase
+-- the phase after a list of calls from a fresh cluster, made with the preference n
+abbrev pub phaseAfter : ℕ → LockId → ClientId → List Call → Status
+phaseAfter n l c cs = watch l c cs (fresh n .cluster) unseen .phase
 
 -- the grants that a client in phase st is shown by a list of calls on x
 abbrev pub grantsIn : LockId → ClientId → List Call → Cluster → Status → ℕ

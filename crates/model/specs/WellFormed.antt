@@ -7,9 +7,9 @@ use Prim.Native.Nat.{ℕ}
 use lib.ListN.{length, take, drop}
 use lib.Dec.{eqb, leb, ltb}
 use Rattle.model.specs.Lists.{any, all}
-use Rattle.model.specs.Names.{MachineId, ClientId, Owner, Unowned, Owned, Waiter, Queue, Agent, AgentSlot, Address, ToDecider, ToMachine, Message, Free}
-use Rattle.model.specs.Names.{Acquire, Grant, Release, Packet, Wire, LockState, Cluster}
-use Rattle.model.specs.States.{locks, machines, clients, queueCapacity, wireCapacity, isShared}
+use Rattle.model.specs.Names.{MachineId, ClientId, Owner, Unowned, Owned, Decider, Waiter, Queue, Agent, AgentSlot, Address, ToDecider, ToMachine}
+use Rattle.model.specs.Names.{Message, Free, Acquire, Grant, Release, Packet, Wire, LockState, Cluster}
+use Rattle.model.specs.States.{locks, machines, clients, queueCapacity, wireCapacity, isShared, preferences, prefersWriters}
 
 -- numbers that are some machine's, some client's
 abbrev pub machineInRange : MachineId → Bool
@@ -21,6 +21,10 @@ clientInRange c = ltb (c .0) clients
 abbrev pub ownerInRange : Owner → Bool
 ownerInRange Unowned = true
 ownerInRange (Owned m k) = machineInRange k
+
+-- A decider that knows of a writer is one of a cluster that prefers writers; n is the cluster's preference.
+abbrev pub deciderFormed : ℕ → Decider → Bool
+deciderFormed n d = ownerInRange (d .owner) && (not (d .writer) || prefersWriters n)
 
 abbrev pub addressInRange : Address → Bool
 addressInRange ToDecider = true
@@ -98,11 +102,11 @@ unfoldable pub wireFormed : Wire → Bool
 wireFormed w = shaped wireCapacity isBlankPacket (w .slots) (w .len) && all packetFormed (take (w .len) (w .slots))
 
 -- A lock's state: every part of it, and as many agents and statuses as there are machines and clients.
-unfoldable pub lockFormed : LockState → Bool
-lockFormed s =
-    ownerInRange (s .decider .owner)
+unfoldable pub lockFormed : ℕ → LockState → Bool
+lockFormed n s =
+    deciderFormed n (s .decider)
     && (eqb (length (s .agents)) machines
     && (all slotFormed (s .agents) && (eqb (length (s .clients)) clients && wireFormed (s .wire))))
 
 unfoldable pub wellFormed : Cluster → Bool
-wellFormed x = eqb (length (x .locks)) locks && all lockFormed (x .locks)
+wellFormed x = ltb (x .preference) preferences && (eqb (length (x .locks)) locks && all (lockFormed (x .preference)) (x .locks))

@@ -18,6 +18,9 @@ pub const QUEUE_CAPACITY: usize = 16;
 
 pub const WIRE_CAPACITY: usize = 33;
 
+// A cluster prefers readers, 0, or writers, 1.
+pub const PREFERENCES: u8 = 2;
+
 // The steps that a drain may take (specs/Drain.antt).
 pub const ALLOWANCE: u16 = 16384;
 
@@ -42,9 +45,11 @@ pub enum Owner {
     Owned(Mode, MachineId),
 }
 
+// writer: the source's ww, an exclusive request is known to wait.
 pub struct Decider {
     pub owner: Owner,
     pub incarnation: u8,
+    pub writer: bool,
 }
 
 pub struct Waiter {
@@ -116,23 +121,25 @@ pub struct ClientState {
     pub status: Status,
 }
 
-// What a step looks at and may write of a lock's record: the decider, one machine's agent or none, one client's status.
+// What a step looks at: the cluster's preference; and what it may write of a lock's record: the decider, one machine's agent or none, one client's status.
 pub struct Site {
+    pub preference: u8,
     pub decider: Decider,
     pub slot: AgentSlot,
     pub status: Status,
 }
 
-// A lock's record in document 01.
+// A lock's record in document 01. The wire, nine tenths of it, comes first: so the compiler makes a new state where it is to be, and saves a copy.
 pub struct LockState {
+    pub wire: Wire,
     pub decider: Decider,
     pub agents: [AgentSlot; MACHINES],
     pub clients: [ClientState; CLIENTS],
-    pub wire: Wire,
 }
 
-// The bench in document 01.
+// The bench in document 01. Its preference, 0 for readers and 1 for writers, is as given when it was made.
 pub struct Cluster {
+    pub preference: u8,
     pub locks: [LockState; LOCKS],
 }
 
@@ -172,6 +179,7 @@ pub enum Refusal {
     TranscriptLength,
     NotQuiescent,
     NotWaiting,
+    PreferenceRange,
 }
 
 pub enum Answer {
@@ -277,6 +285,7 @@ impl Refusal {
             Refusal::TranscriptLength => 13,
             Refusal::NotQuiescent => 14,
             Refusal::NotWaiting => 15,
+            Refusal::PreferenceRange => 16,
         }
     }
 }

@@ -1,6 +1,6 @@
 -- The names that the proofs cite.
 pub use mathlib.Core.Path.{_≡_, refl, sym, ap, _∙_}
-pub use mathlib.Core.Bool.{Bool, false}
+pub use mathlib.Core.Bool.{Bool, false, not}
 pub use Prim.Native.Nat.{_-_, _<_, _≤_}
 pub use native.Mathlib.Omega.{arith}
 pub use lib.ListN.{length, take, drop, length-set, List·getD-eq-default}
@@ -13,6 +13,7 @@ unfoldable pub use Rattle.model.specs.Lists.{padded}
 pub use Rattle.model.specs.States.{machines, clients, queueCapacity, wireCapacity, blankWaiter, idle}
 unfoldable pub use Rattle.model.specs.States.{queueOf, waiters, noAgent, blankPacket, packets}
 pub use Rattle.model.specs.WellFormed.{isClient}
+pub use Rattle.model.specs.Asking.{isWriter}
 pub use Rattle.model.specs.Calls.{names}
 pub use Rattle.laws.specs.Lists.{getD-any}
 pub use Rattle.laws.specs.Shapes.{packet-is, waiter-is}

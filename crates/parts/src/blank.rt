@@ -72,6 +72,7 @@ pub fn unowned() -> Decider
     Decider {
         owner: Owner::Free,
         incarnation: 0,
+        writer: false,
     }
 }
 

@@ -1,18 +1,20 @@
 // A queue of waiters, in the first slots of an array.
 use crate::blank::blank_waiter;
+use crate::holders::is_shared;
 use model::Agent;
 use model::ClientId;
 use model::QUEUE_CAPACITY;
 use model::Queue;
 use model::Waiter;
 ghost use mathlib.Core.Path.{_≡_};
+ghost use mathlib.Core.Bool.{_&&_};
 ghost use mathlib.Core.List.{[], _∷_, _++_};
 ghost use Prim.Native.Nat.{_<_, _≤_};
 ghost use lib.ListN.{take, getD};
 ghost use Rattle.model.specs.Lists.{any, removed};
-ghost use Rattle.model.specs.States.{queueCapacity, blankWaiter, queueOf, waiters};
+ghost use Rattle.model.specs.States.{queueCapacity, blankWaiter, queueOf, waiters, prefersWriters};
 ghost use Rattle.model.specs.WellFormed.{isClient};
-ghost use Rattle.model.specs.Asking.{noRoom};
+ghost use Rattle.model.specs.Asking.{noRoom, isWriter, writerIn};
 ghost use Rattle.laws.specs.Shapes.{CanonicalQueue};
 ghost use Rattle.parts.specs.Arrays.{cutUsed, slid};
 
@@ -118,5 +120,36 @@ pub fn no_room(a: Agent, c: ClientId) -> bool
         true
     } else {
         QUEUE_CAPACITY <= n
+    }
+}
+
+fn any_writer(a: [Waiter; QUEUE_CAPACITY], n: usize) -> bool
+    requires { ⌜ n ≤ queueCapacity ⌝ }
+    ensures { λ r. ⌜ r ≡ any isWriter (take n a) ⌝ }
+{
+    let mut j: usize = 0;
+    while j < n {
+        let w = a[j];
+        let m = w.mode;
+        let shared = is_shared(m);
+        if !shared {
+            return true;
+        }
+        j += 1;
+    }
+    false
+}
+
+// A writer in the agent's queue comes first, in a cluster with the preference p: readers do not pass it.
+pub fn writer_first(p: u8, a: Agent) -> bool
+    requires { ⌜ CanonicalQueue (a .queue) ⌝ }
+    ensures { λ r. ⌜ r ≡ (prefersWriters p && writerIn a) ⌝ }
+{
+    if p == 1 {
+        let q = a.queue;
+        let slots = q.slots;
+        any_writer(slots, q.len as usize)
+    } else {
+        false
     }
 }

@@ -29,23 +29,24 @@ ghost use Rattle.laws.specs.Formed.{Ready};
 ghost use Rattle.rules.specs.Effects.{verdictOf};
 ghost use Rattle.planning.specs.Plans.{Plans};
 
-pub fn plan_acquire(s: LockState, c: ClientId, m: Mode) -> Plan
+// n is the cluster's preference.
+pub fn plan_acquire(n: u8, s: LockState, c: ClientId, m: Mode) -> Plan
     requires { ⌜ Ready s ⌝ }
-    ensures { λ r. ⌜ Plans r s (acquireStep s c m) ⌝ }
+    ensures { λ r. ⌜ Plans r s (acquireStep n s c m) ⌝ }
 {
     let k = machine_of(c);
-    let v = site_of(s, k, c);
+    let v = site_of(n, s, k, c);
     let e = acquire(v, c, m);
     plan_effect(k, c, e, Handling::None, NONE_OFF, s.wire.len)
 }
 
 // A client that holds releases.
-pub fn plan_release(s: LockState, c: ClientId) -> Plan
+pub fn plan_release(n: u8, s: LockState, c: ClientId) -> Plan
     requires { ⌜ Ready s ⌝ }
-    ensures { λ r. ⌜ Plans r s (releaseStep s c) ⌝ }
+    ensures { λ r. ⌜ Plans r s (releaseStep n s c) ⌝ }
 {
     let k = machine_of(c);
-    let v = site_of(s, k, c);
+    let v = site_of(n, s, k, c);
     let e = release(v, c);
     plan_effect(k, c, e, Handling::None, NONE_OFF, s.wire.len)
 }
@@ -96,16 +97,16 @@ fn handled_at(to: Address, m: Message, x: AgentSlot) -> Handling
     }
 }
 
-pub fn plan_deliver(s: LockState, i: u8) -> Plan
+pub fn plan_deliver(n: u8, s: LockState, i: u8) -> Plan
     requires { ⌜ (Ready s) × (i < s .wire .len) ⌝ }
-    ensures { λ r. ⌜ Plans r s (deliverStep s i) ⌝ }
+    ensures { λ r. ⌜ Plans r s (deliverStep n s i) ⌝ }
 {
     let p = packet_at(s.wire, i);
     let to = p.to;
     let m = p.message;
     let k = machine_at(to);
     let c = client_named(m);
-    let v = site_of(s, k, c);
+    let v = site_of(n, s, k, c);
     let h = handled_at(to, m, v.slot);
     let e = deliver(to, v, p);
     plan_effect(k, c, e, h, i, s.wire.len - 1)

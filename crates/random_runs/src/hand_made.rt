@@ -1,4 +1,4 @@
-// docs/random-runs.md, 'Hand-made states': the lock, with the faults 10 to 12, and the cluster.
+// docs/random-runs.md, 'Hand-made states': the lock, with the faults 10 to 12 and 14, and the cluster, with fault 13.
 ghost use Prim.Native.Nat.{_≤_};
 ghost use Rattle.model.specs.States.{wireCapacity};
 use crate::agent::agent;
@@ -17,6 +17,7 @@ use model::ClientId;
 use model::ClientState;
 use model::Cluster;
 use model::Decider;
+use model::LOCKS;
 use model::LockState;
 use model::MACHINES;
 use model::MachineId;
@@ -38,8 +39,17 @@ fn owner(k: u8, machine: u8) -> Owner {
     }
 }
 
+// The decider's bit for a writer, in a cluster that prefers writers or not; with fault 14.
+fn writer(prefers: bool, f: Fault) -> bool {
+    if f.kind == 14 {
+        true
+    } else {
+        prefers & (f.value % 2 == 1)
+    }
+}
+
 // Item 2, with fault 10.
-fn decider(s: &mut u32, f: Fault) -> Decider {
+fn decider(s: &mut u32, prefers: bool, f: Fault) -> Decider {
     let k = draw(s, 4);
     let machine = draw(s, 4);
     let n = incarnation(s);
@@ -51,6 +61,7 @@ fn decider(s: &mut u32, f: Fault) -> Decider {
     Decider {
         owner: o,
         incarnation: n,
+        writer: writer(prefers, f),
     }
 }
 
@@ -172,37 +183,54 @@ fn packet_count(kind: u8, i: u8) -> u8
     if kind == 11 { 33 } else { wire_length(i) }
 }
 
-// A lock; item 1 gives its fault and the number of its packets.
-fn lock(s: &mut u32) -> LockState {
+// A lock with its fault, which item 1 gives with the number of its packets.
+struct Drawn {
+    fault: Fault,
+    lock: LockState,
+}
+
+fn lock(s: &mut u32, prefers: bool) -> Drawn {
     let kind = draw(s, 16);
     let value = draw(s, 239);
     let n = packet_count(kind, draw(s, 16));
     let slot = draw(s, 4 + n as u16);
     let f = Fault { kind, value, slot };
-    let decider = decider(s, f);
+    let decider = decider(s, prefers, f);
     let o = decider.owner;
     let agents = agents(s, o, f);
     let clients = clients(s);
     let slots = packets(s, n, f);
     let wire = wire(slots, n, f);
-    LockState {
+    let lock = LockState {
         decider,
         agents,
         clients,
         wire,
+    };
+    Drawn { fault: f, lock }
+}
+
+// The cluster with the lock in its place; fault 13 is the cluster's.
+fn with_lock(mut x: Cluster, at: usize, d: Drawn) -> Cluster {
+    let f = d.fault;
+    let s = d.lock;
+    if f.kind == 13 {
+        x.preference = wrapping_add_u8(2, f.value);
     }
+    if at < LOCKS {
+        x.locks[at] = s;
+    }
+    x
 }
 
 // The cluster of a seed.
 pub fn cluster(s: &mut u32, seed: u32) -> Cluster {
-    let mut x = engine::fresh();
-    let at = (seed % 8) as usize;
-    let a = lock(s);
-    x.locks[at] = a;
+    let prefers = (seed / 32) % 2 == 1;
+    let made = engine::fresh(if prefers { 1 } else { 0 });
+    let x = with_lock(made.cluster, (seed % 8) as usize, lock(s, prefers));
     if (seed / 8) % 2 == 1 {
-        let next = ((seed % 8 + 1) % 8) as usize;
-        let b = lock(s);
-        x.locks[next] = b;
+        with_lock(x, ((seed % 8 + 1) % 8) as usize, lock(s, prefers))
+    } else {
+        x
     }
-    x
 }

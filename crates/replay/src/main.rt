@@ -1,4 +1,4 @@
-// The program replay: runs a transcript from standard input on a fresh cluster and writes its listing.
+// The program replay: runs a transcript from standard input on a fresh cluster, which prefers readers, and writes its listing.
 use libc::STDIN_FILENO;
 use libc::STDOUT_FILENO;
 
@@ -16,6 +16,7 @@ fn main() {
     let mut bytes = io::large_buffer();
     let n = io::read_full(STDIN_FILENO, &mut bytes);
     let mut out = [0u8; ROOM];
-    let listed = transcript::run::list(engine::fresh(), &bytes[..n], &mut out);
+    let made = engine::fresh(0);
+    let listed = transcript::run::list(made.cluster, &bytes[..n], &mut out);
     write_front(&out, listed.written);
 }

@@ -20,6 +20,7 @@ use parts::holders::is_shared;
 use parts::holders::join;
 use parts::queue::no_room;
 use parts::queue::push;
+use parts::queue::writer_first;
 ghost use mathlib.Core.Path.{_≡_};
 ghost use mathlib.Core.Bool.{true, false};
 ghost use mathlib.Core.List.{[]};
@@ -29,14 +30,23 @@ ghost use Rattle.model.specs.Asking.{queuing, withRoom, mayJoin, clientAsks, cl
 ghost use Rattle.laws.specs.Shapes.{CanonicalQueue};
 ghost use Rattle.rules.specs.Effects.{verdictOf};
 
-// A request may join the holders of the site's agent: agent and request are both shared.
+// A request may join the holders of the site's agent: agent and request are both shared, and no writer in the queue comes first.
 pub fn may_join(v: Site, m: Mode) -> bool
+    requires { ⌜ CanonicalQueue (v .slot .agent .queue) ⌝ }
     ensures { λ r. ⌜ r ≡ mayJoin v m ⌝ }
 {
     let x = v.slot;
     let a = x.agent;
     let n = a.mode;
-    if is_shared(n) { is_shared(m) } else { false }
+    if is_shared(n) {
+        if is_shared(m) {
+            !writer_first(v.preference, a)
+        } else {
+            false
+        }
+    } else {
+        false
+    }
 }
 
 // The client joins the end of the agent's queue.
@@ -55,7 +65,7 @@ pub fn queue_last(v: Site, mut a: Agent, c: ClientId, m: Mode) -> Effect
 
 // The agent a is on the client's machine.
 fn ask_agent(v: Site, a: Agent, c: ClientId, m: Mode) -> Effect
-    requires { ⌜ CanonicalQueue (a .queue) ⌝ }
+    requires { ⌜ (CanonicalQueue (v .slot .agent .queue)) × (CanonicalQueue (a .queue)) ⌝ }
     ensures { λ r. ⌜ verdictOf r ≡ clientAsks v c m true a ⌝ }
 {
     if may_join(v, m) {

@@ -80,6 +80,7 @@ pub fn cannot_place() -> Effect
     let x = no_agent();
     let t = no_packet();
     let v = Site {
+        preference: 0,
         decider: d,
         slot: x,
         status: Status::Idle,

@@ -11,8 +11,9 @@ use parts::state::status_at;
 ghost use mathlib.Core.Path.{_≡_};
 ghost use Rattle.model.specs.Changes.{siteOf, withDecider, withSlot, withStatus};
 
-pub fn site_of(s: LockState, k: MachineId, c: ClientId) -> Site
-    ensures { λ r. ⌜ r ≡ siteOf s k c ⌝ }
+// n is the cluster's preference.
+pub fn site_of(n: u8, s: LockState, k: MachineId, c: ClientId) -> Site
+    ensures { λ r. ⌜ r ≡ siteOf n s k c ⌝ }
 {
     let d = s.decider;
     let agents = s.agents;
@@ -20,6 +21,7 @@ pub fn site_of(s: LockState, k: MachineId, c: ClientId) -> Site
     let x = agent_at(agents, k);
     let st = status_at(clients, c);
     Site {
+        preference: n,
         decider: d,
         slot: x,
         status: st,
@@ -47,6 +49,7 @@ pub fn with_status(v: Site, st: Status) -> Site
     let d = v.decider;
     let x = v.slot;
     Site {
+        preference: v.preference,
         decider: d,
         slot: x,
         status: st,

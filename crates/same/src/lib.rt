@@ -251,7 +251,7 @@ fn deciders(d: Decider, e: Decider) -> bool
     let o = d.owner;
     let p = e.owner;
     let f = owners(o, p);
-    f & (d.incarnation == e.incarnation)
+    f & ((d.incarnation == e.incarnation) & (d.writer == e.writer))
 }
 
 fn client(c: ClientState, d: ClientState) -> bool
@@ -301,5 +301,6 @@ pub fn clusters(x: Cluster, y: Cluster) -> bool
 {
     let a = x.locks;
     let b = y.locks;
-    locks(a, b)
+    let e = locks(a, b);
+    (x.preference == y.preference) & e
 }

@@ -7,8 +7,11 @@ mod script;
 mod show;
 mod transcripts;
 
+// The script has less.
+const ROOM: usize = 131072;
+
 fn main() {
-    let mut bytes = io::large_buffer();
+    let mut bytes = [0u8; ROOM];
     let n = io::read_full(libc::STDIN_FILENO, &mut bytes);
     script::run(&bytes[..n]);
 }

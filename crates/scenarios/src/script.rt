@@ -25,8 +25,8 @@ pub struct Made {
     pub records: Records,
 }
 
-fn nothing() -> Made {
-    let cluster = engine::fresh();
+// All of it begins anew, with the cluster.
+fn starting(cluster: Cluster) -> Made {
     let slot = agents::slot(false, 2);
     let packet = packets::blank();
     let records = transcripts::none();
@@ -37,6 +37,31 @@ fn nothing() -> Made {
         packet,
         records,
     }
+}
+
+fn nothing() -> Made {
+    let made = engine::fresh(0);
+    starting(made.cluster)
+}
+
+// A cluster with the preference is made; the answer is printed.
+fn making(s: &[u8], n: Numbers) -> Made {
+    let made = engine::fresh(n.first);
+    let a = made.answer;
+    print::text(b"make ");
+    print::text(s);
+    print::text(b": ");
+    print::number(a.number());
+    print::text(b"\n");
+    starting(made.cluster)
+}
+
+// The cluster's preference is written by hand.
+fn preferring(mut m: Made, n: Numbers) -> Made {
+    let mut x = m.cluster;
+    x.preference = n.first;
+    m.cluster = x;
+    m
 }
 
 fn with_lock(mut m: Made, s: &[u8], n: Numbers) -> Made {
@@ -121,6 +146,8 @@ fn changed(m: Made, k: usize, s: &[u8], r: &[u8], n: Numbers) -> Made {
         12 => with_handling(m, r),
         13 => with_record(m, r, n),
         14 => with_replay(m, r),
+        15 => making(r, n),
+        16 => preferring(m, n),
         _ => with_call(m, s),
     }
 }
@@ -130,7 +157,7 @@ fn command(m: Made, s: &[u8]) -> Made {
     let k = line::place(
         s,
         0,
-        b"*say *bound *show *try *inside *outside *reason *fresh *keep *lock *agent *packet *handled *record *replay",
+        b"*say *bound *show *try *inside *outside *reason *fresh *keep *lock *agent *packet *handled *record *replay *make *prefer",
     );
     if k < 7 {
         printed(m, k, rest(s));

@@ -56,6 +56,9 @@ fn decider(d: Decider) {
     text(b"decider: ");
     owner(o);
     labelled(b", incarnation ", d.incarnation);
+    if d.writer {
+        text(b", a writer waits");
+    }
     text(b"\n");
 }
 
@@ -171,21 +174,33 @@ fn lock(s: LockState, k: usize, n: u8) {
     }
 }
 
+fn preference(n: u8) {
+    labelled(b"preference ", n);
+    text(b"\n");
+}
+
+// The cluster is as it was made, with its preference.
+fn fresh(x: Cluster) {
+    let made = engine::fresh(x.preference);
+    print::either(
+        same::clusters(x, made.cluster),
+        b": fresh\n",
+        b": not fresh\n",
+    );
+}
+
 // The cluster y is the one that was kept. The words' places are the cases here and in `lock`.
 pub fn shown(x: Cluster, y: Cluster, t: &[u8]) {
     let n = line::numbers_in(t);
     let k = line::word(
         t,
         n.count,
-        b"0fresh 0kept 1client 0decider 1machine 0wire 0counts",
+        b"0fresh 0kept 1client 0decider 1machine 0wire 0counts 0preference",
     );
     match k {
-        0 => print::either(
-            same::clusters(x, engine::fresh()),
-            b": fresh\n",
-            b": not fresh\n",
-        ),
+        0 => fresh(x),
         1 => print::either(same::clusters(x, y), b": as kept\n", b": not as kept\n"),
+        7 => preference(x.preference),
         _ => lock(x.locks[0], k, n.first),
     }
 }

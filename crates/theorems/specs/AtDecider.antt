@@ -8,9 +8,9 @@ use Rattle.theorems.specs.Names.{waiters-of, Decider, _∙_, false≢tru
 use Rattle.theorems.specs.Tally.{flag, tally, tally-any, tally-le, tally-none, tally-add, sumTo, sum-swap, sum-le, sum-one}
 use Rattle.theorems.specs.Weights.{statusAt, slotAt, weight, one, askM, queuedS, waitingP, markM, listedS, listedP, owedM, owedP, releaseM, releaseP}
 use Rattle.theorems.specs.Weights.{agentS, agentP, incarnationS, incarnationP, markAll, markP, rejectedP, vacantS, holdF, ownedF, clash, farM, farP, farF}
-use Rattle.theorems.specs.Weights.{ownedMode, misfitS, fitsAway, fitsFree, inRange, fits, fitsP, misfitP}
+use Rattle.theorems.specs.Weights.{waitedF, ownedMode, misfitS, fitsAway, fitsFree, inRange, fits, fitsP, misfitP}
 use Rattle.theorems.specs.Invariant.{Inv}
-use Rattle.theorems.specs.InvariantStep.{Keeps, Split, keep-step, told, untold, keep-calm, vacancy-by, Still, still, keep-resent, framed}
+use Rattle.theorems.specs.InvariantStep.{Keeps, Split, keep-step, told, untold, keep-calm, vacancy-by, Still, still, noted, keep-resent, framed}
 use Rattle.theorems.specs.Facts.{fit, Zero, absent, nobody, came-fits, near-owner, near-home, named-of, Plain, Request, acquire-of, release-of}
 use Rattle.theorems.specs.Facts.{plain-request, Away, away-of, away-fits, absent-of, silent-unshared, silent-equal, free-inc, same-mode, no-others}
 use Rattle.theorems.specs.Facts.{differ}
@@ -157,9 +157,10 @@ module _ (r : LockState) (p : Packet) (rest : List Packet) (i : Inv r) (sp : Spl
     pub unrejected : tally rejectedP qs ≡ 0
     pub reach : farF (d .owner) + tally farP qs ≡ 0
     pub fitting : tally (misfitP (d .owner)) qs ≡ 0
+    pub quiet : waitedF (d .owner) (d .writer) ≡ 0
 
-  pub keep-reowned : (j : MachineId) (u : ClientId) → j .0 < machines → (d : Decider) (qs : List Packet) → Reowned d qs
-      → Keeps r j u rest (withDecider (siteOf r j u) d) qs
+  pub keep-reowned : {pref : ℕ} (j : MachineId) (u : ClientId) → j .0 < machines → (d : Decider) (qs : List Packet) → Reowned d qs
+      → Keeps r j u rest (withDecider (siteOf pref r j u) d) qs
   unfolding tally
   keep-reowned j u jj d qs l =
       let same : (c : ℕ) → told r u (statusAt r (u .0)) c ≡ statusAt r c = untold r u in
@@ -178,6 +179,7 @@ module _ (r : LockState) (p : Packet) (rest : List Packet) (i : Inv r) (sp : Spl
         homes = λ k. rw (set-getD (r .agents) (j .0) noAgent) (any-slot (d .owner) k);
         reach = l .reach;
         vacancy = rw (set-getD (r .agents) (j .0) noAgent) (omega (arith, none-rejected, l .unrejected));
+        quiet = l .quiet;
       })
 
 -- what is known of a GRANT with an agent at the decider
@@ -191,10 +193,10 @@ shared-owner-is Exclusive k e = absurd (false≢true e)
 shared-owner-is Shared k e = refl
 
 -- ---- a step that is about machine j and client u, for the packet p at the decider
-module _ (r : LockState) (rest : List Packet) (i : Inv r) (j : MachineId) (u : ClientId) (jj : j .0 < machines) (p : Packet) where
+module _ (pref : ℕ) (r : LockState) (rest : List Packet) (i : Inv r) (j : MachineId) (u : ClientId) (jj : j .0 < machines) (p : Packet) where
   -- the site before it
   abbrev site : Site
-  site = siteOf r j u
+  site = siteOf pref r j u
 
   -- p with this message; the Bool: it carries an agent, which is a
   abbrev came : Message → Bool → Packet
@@ -206,7 +208,7 @@ module _ (r : LockState) (rest : List Packet) (i : Inv r) (j : MachineId) (u : C
   -- ---- an ACQUIRE at a free lock
   pub keep-first : (c : ClientId) (m : Mode) (x : Bool) → r .decider .owner ≡ Unowned → Split r (came (Acquire c m false) x ∷ []) rest
       → Good r j u rest (grantsFirst site c m)
-  unfolding tally askM markM owedM releaseM markAll queuedS listedS agentS incarnationS misfitP fits ownedF fitsAway
+  unfolding tally askM markM owedM releaseM markAll queuedS listedS agentS incarnationS misfitP fits ownedF fitsAway waitedF
   keep-first c m x o sp =
       let pl : Plain c (slotIn x p) = plain-request i acquire-of sp in
       let z : Zero (slotIn x p) = pl .none in
@@ -223,6 +225,7 @@ module _ (r : LockState) (rest : List Packet) (i : Inv r) (j : MachineId) (u : C
         unrejected = refl;
         reach = omega (arith, near-home c (pl .below));
         fitting = rw (pl .named, eq-eqb (machineOf c .0) (machineOf c .0) refl, same-mode m);
+        quiet = refl;
       })
 
   -- ---- an ACQUIRE, lock and request both shared
@@ -234,7 +237,7 @@ module _ (r : LockState) (rest : List Packet) (i : Inv r) (j : MachineId) (u : C
       let z : Zero (slotIn x p) = pl .none in
       keep-calm i
       (record {
-        frame = framed sp jj refl refl;
+        frame = framed sp jj refl refl refl;
         status = refl;
         waits = λ d m. omega (arith, z .queuedS d m);
         holds = λ d. omega (arith, z .listedS d);
@@ -267,7 +270,7 @@ module _ (r : LockState) (rest : List Packet) (i : Inv r) (j : MachineId) (u : C
 
   keep-freed : ownedF (r .decider .owner) ≡ 1 → a .incarnation ≡ r .decider .incarnation → Split r (came Free true ∷ []) rest
       → Keeps r j u rest (withDecider site unowned) []
-  unfolding tally askM markM owedM releaseM markAll queuedS listedS agentS incarnationS ownedF waiters
+  unfolding tally askM markM owedM releaseM markAll queuedS listedS agentS incarnationS ownedF waiters waitedF
   keep-freed ow e sp =
       let aw : Away a × (a .queue .len ≡ 0) = free-away sp in
       keep-reowned r _ rest i sp (sym ow) (silent-equal r _ rest i sp refl e) (λ d. omega (arith, nobody (a .holders) d (aw .0 .empty))) j u jj unowned []
@@ -282,11 +285,12 @@ module _ (r : LockState) (rest : List Packet) (i : Inv r) (j : MachineId) (u : C
         unrejected = refl;
         reach = refl;
         fitting = refl;
+        quiet = refl;
       })
 
   keep-passed-on : (c : ClientId) (m : Mode) → ownedF (r .decider .owner) ≡ 1 → a .incarnation ≡ r .decider .incarnation
       → Split r (came (Grant c m) true ∷ []) rest → Good r j u rest (passesOn site c m a)
-  unfolding tally askM markM owedM releaseM markAll queuedS listedS agentS incarnationS misfitP fits ownedF
+  unfolding tally askM markM owedM releaseM markAll queuedS listedS agentS incarnationS misfitP fits ownedF waitedF
   keep-passed-on c m ow e sp =
       let of : Offer (r .decider .owner) c a = came-grant c m sp in
       let aw : Away a = away-of a (of .away) in
@@ -304,6 +308,7 @@ module _ (r : LockState) (rest : List Packet) (i : Inv r) (j : MachineId) (u : C
         unrejected = refl;
         reach = omega (arith, near-home c (ltb-true (c .0) clients (of .named)));
         fitting = rw (of .named, eq-eqb (machineOf c .0) (machineOf c .0) refl, same-mode m, re);
+        quiet = refl;
       })
 
   -- the incarnations differ: some mark is on the wire
@@ -346,7 +351,7 @@ module _ (r : LockState) (rest : List Packet) (i : Inv r) (j : MachineId) (u : C
   unfolding decides decidesAcquire decidesFree decidesGrant
   good-decides (Acquire c m false) Unowned x e sp = keep-first c m x e sp
   good-decides (Acquire c m true) Unowned x e sp = impossible i sp (rw e (no-marked x ToDecider _ a c m Unowned refl))
-  good-decides (Acquire c m false) (Owned o k) x e sp = good-by r j u rest (mayShare site m) _ _ yes (λ q. good-on (still refl) o k x acquire-of e sp)
+  good-decides (Acquire c m false) (Owned o k) x e sp = good-by r j u rest (mayShare site m) _ _ yes (λ q. good-on (noted m e) o k x acquire-of e sp)
     where
       yes : mayShare site m ≡ true → Good r j u rest (shares site c k)
       yes q =

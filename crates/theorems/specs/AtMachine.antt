@@ -22,8 +22,8 @@ use Rattle.theorems.specs.Leaving.{Leaver, keep-leaves}
 use Rattle.theorems.specs.Install.{keep-installs}
 
 -- ---- a GRANT without agent comes to its client
-module _ (r : LockState) (rest : List Packet) (i : Inv r) (k : MachineId) (kk : k .0 < machines) (c : ClientId) (n : Mode) (p : Packet) (t : Address) (b : Bool)
-    (sp : Split r (inParts (Grant c n) t b false p ∷ []) rest) where
+module _ (pref : ℕ) (r : LockState) (rest : List Packet) (i : Inv r) (k : MachineId) (kk : k .0 < machines) (c : ClientId) (n : Mode) (p : Packet)
+    (t : Address) (b : Bool) (sp : Split r (inParts (Grant c n) t b false p ∷ []) rest) where
   told-fits : (ltb (c .0) clients && (not b && (ownedShared (r .decider .owner) && sameMode n Shared))) ≡ true
   unfolding misfitP fits
   told-fits = fit _ (came-fits r rest _ i sp)
@@ -42,13 +42,13 @@ module _ (r : LockState) (rest : List Packet) (i : Inv r) (k : MachineId) (kk : 
       mode-shared (Owned Exclusive k) Shared e f = e
       mode-shared (Owned Shared k) m e f = f
 
-  pub keep-told : Keeps r k c rest (withStatus (siteOf r k c) (Holding n)) []
+  pub keep-told : Keeps r k c rest (withStatus (siteOf pref r k c) (Holding n)) []
   unfolding tally askM markM owedM releaseM markAll queuedS listedS agentS incarnationS one hit waitF holdF idleF
   keep-told =
       let move = status-move i told-below (grant-waits _ i refl sp) (Holding n) in
       keep i
       (record {
-        frame = framed sp kk refl refl;
+        frame = framed sp kk refl refl refl;
         waits = λ d m. omega (arith, move (waitF m) d);
         holds = λ d. omega (arith, move holdF d);
         rels = λ d. omega (arith, i .rels d, sp .parts (releaseP d), move idleF d);
@@ -62,7 +62,7 @@ module _ (r : LockState) (rest : List Packet) (i : Inv r) (k : MachineId) (kk : 
       })
 
 -- ---- an ACQUIRE comes to the machine with the agent
-module _ (r : LockState) (rest : List Packet) (i : Inv r) (k : MachineId) (kk : k .0 < machines) (h : Agent) (es : slotAt r (k .0) ≡ someAgent h)
+module _ (pref : ℕ) (r : LockState) (rest : List Packet) (i : Inv r) (k : MachineId) (kk : k .0 < machines) (h : Agent) (es : slotAt r (k .0) ≡ someAgent h)
     (c : ClientId) (n : Mode) (p : Packet) (b x : Bool) where
   -- the Bool: marked
   abbrev asking : Bool → Packet
@@ -72,7 +72,7 @@ module _ (r : LockState) (rest : List Packet) (i : Inv r) (k : MachineId) (kk : 
   home = slot-home r (k .0) h i es
 
   -- a marked one
-  keep-marked : h .mode ≡ Shared → Split r (asking true ∷ []) rest → Keeps r k c rest (withSlot (siteOf r k c) (joins h c (next (h .incarnation)))) []
+  keep-marked : h .mode ≡ Shared → Split r (asking true ∷ []) rest → Keeps r k c rest (withSlot (siteOf pref r k c) (joins h c (next (h .incarnation)))) []
   unfolding tally askM markM owedM releaseM markAll queuedS listedS agentS incarnationS vacantS weight
   keep-marked sh sp =
       let pl : Plain c (slotIn x p) = plain-request i acquire-of sp in
@@ -82,7 +82,7 @@ module _ (r : LockState) (rest : List Packet) (i : Inv r) (k : MachineId) (kk : 
       let busy = none-vacant r i (k .0) kk h es (joins h c new) (joins-busy i kk es c (pl .below) new) refl in
       keep-calm i
       (record {
-        frame = framed sp kk es refl;
+        frame = framed sp kk es refl refl;
         status = refl;
         waits = λ d m. omega (arith, z .queuedS d m);
         holds = λ d. omega (arith, z .listedS d, joins-listed i kk es c (pl .below) new un d);
@@ -97,7 +97,7 @@ module _ (r : LockState) (rest : List Packet) (i : Inv r) (k : MachineId) (kk : 
 
   -- an unmarked one, agent and request both shared
   keep-joins : h .mode ≡ Shared → n ≡ Shared → Split r (asking false ∷ []) rest
-      → Keeps r k c rest (withSlot (siteOf r k c) (someAgent (joining h c))) (plain (Grant c n) ToDecider ∷ [])
+      → Keeps r k c rest (withSlot (siteOf pref r k c) (someAgent (joining h c))) (plain (Grant c n) ToDecider ∷ [])
   unfolding tally weight askM markM owedM releaseM markAll queuedS listedS agentS incarnationS vacantS misfitP fits noAgent
   keep-joins sh ns sp =
       let pl : Plain c (slotIn x p) = plain-request i acquire-of sp in
@@ -107,7 +107,7 @@ module _ (r : LockState) (rest : List Packet) (i : Inv r) (k : MachineId) (kk : 
       let os : ownedShared (r .decider .owner) ≡ true = shared-owner (r .decider .owner) (rw sh at (home .mode)) in
       keep-calm i
       (record {
-        frame = framed sp kk es refl;
+        frame = framed sp kk es refl refl;
         status = refl;
         waits = λ d m. omega (arith, z .queuedS d m);
         holds = λ d. omega (arith, z .listedS d, joins-listed i kk es c (pl .below) (h .incarnation) un d);
@@ -121,13 +121,13 @@ module _ (r : LockState) (rest : List Packet) (i : Inv r) (k : MachineId) (kk : 
       })
 
   -- else it joins the queue's end, which has room
-  keep-queues : Split r (asking false ∷ []) rest → Keeps r k c rest (withSlot (siteOf r k c) (someAgent (queuing h c n))) []
+  keep-queues : Split r (asking false ∷ []) rest → Keeps r k c rest (withSlot (siteOf pref r k c) (someAgent (queuing h c n))) []
   unfolding tally askM markM owedM releaseM markAll listedS agentS incarnationS vacantS misfitS fitsHome
   keep-queues sp =
       let z : Zero (slotIn x p) = plain-request i acquire-of sp .none in
       keep-calm i
       (record {
-        frame = framed sp kk es refl;
+        frame = framed sp kk es refl refl;
         status = refl;
         waits = λ d m. omega (arith, z .queuedS d m, queued-one h c n d m);
         holds = λ d. omega (arith, z .listedS d);
@@ -140,7 +140,7 @@ module _ (r : LockState) (rest : List Packet) (i : Inv r) (k : MachineId) (kk : 
         vacancy = vacancy-by (someAgent (queuing h c n)) [] i sp kk es (omega arith);
       })
 
-  good-queues : Split r (asking false ∷ []) rest → Good r k c rest (withRoom h c (does (withSlot (siteOf r k c) (someAgent (queuing h c n))) []))
+  good-queues : Split r (asking false ∷ []) rest → Good r k c rest (withRoom h c (does (withSlot (siteOf pref r k c) (someAgent (queuing h c n))) []))
   unfolding weight tally askM queuedS
   good-queues sp = good-room h (room-waiting r i (waiters (h .queue)) c n (plain-request i acquire-of sp .below) in-line) (keep-queues sp)
     where
@@ -150,7 +150,7 @@ module _ (r : LockState) (rest : List Packet) (i : Inv r) (k : MachineId) (kk : 
           omega (arith, i .waits d m, sp .parts (waitingP d m))
 
 -- ---- a rejected packet comes home: the agent is installed, q its queue
-module _ (r : LockState) (rest : List Packet) (i : Inv r) (k : MachineId) (kk : k .0 < machines) (old : AgentSlot) (es : slotAt r (k .0) ≡ old)
+module _ (pref : ℕ) (r : LockState) (rest : List Packet) (i : Inv r) (k : MachineId) (kk : k .0 < machines) (old : AgentSlot) (es : slotAt r (k .0) ≡ old)
     (ab : old .present ≡ false) (p : Packet) where
   abbrev a : Agent
   a = p .carried .agent
@@ -165,7 +165,7 @@ module _ (r : LockState) (rest : List Packet) (i : Inv r) (k : MachineId) (kk : 
       → ((d : ℕ) (n : Mode) → askM d n m + tally (hitW d n) (waiters (a .queue)) ≡ tally (hitW d n) (waiters q))
       → ((d : ℕ) → (markM d m ≡ 0) × (owedM d true m ≡ 0)) → markAll m ≡ 0
       → (ownedAt o (k .0) && (ownedMode o (a .mode) && fitsAway a)) ≡ true
-      → Keeps r k u rest (withSlot (siteOf r k u) (someAgent (changed a (a .holders) q (a .incarnation)))) []
+      → Keeps r k u rest (withSlot (siteOf pref r k u) (someAgent (changed a (a .holders) q (a .incarnation)))) []
   unfolding tally queuedS listedS agentS incarnationS vacantS
   back-home u m q sp ask no-m ma f =
       let z : Zero old = absent old ab in
@@ -173,7 +173,7 @@ module _ (r : LockState) (rest : List Packet) (i : Inv r) (k : MachineId) (kk : 
       let aw : Away a = away-of a (and-right (ownedMode o (a .mode)) _ g) in
       keep-calm i
       (record {
-        frame = framed sp kk es refl;
+        frame = framed sp kk es refl refl;
         status = refl;
         waits = λ d n. omega (arith, z .queuedS d n, ask d n);
         holds = λ d. omega (arith, z .listedS d, no-m d);
@@ -194,7 +194,7 @@ module _ (r : LockState) (rest : List Packet) (i : Inv r) (k : MachineId) (kk : 
         vacancy = vacancy-by _ [] i sp kk es (omega (arith, z .vacantS, ma, flag-le (eqb (heads a) 0)));
       })
 
-  keep-free-back : (u : ClientId) → Split r (returns Free ∷ []) rest → Keeps r k u rest (withSlot (siteOf r k u) (someAgent a)) []
+  keep-free-back : (u : ClientId) → Split r (returns Free ∷ []) rest → Keeps r k u rest (withSlot (siteOf pref r k u) (someAgent a)) []
   unfolding tally askM markM owedM markAll misfitP fits fitsFree
   keep-free-back u sp =
       let f : (ownedAt o (k .0) && (ownedMode o (a .mode) && (fitsAway a && eqb (a .queue .len) 0))) ≡ true = fit _ (came-fits r rest _ i sp) in
@@ -205,13 +205,13 @@ module _ (r : LockState) (rest : List Packet) (i : Inv r) (k : MachineId) (kk : 
     unfolding misfitP fits
     back-fits = fit _ (came-fits r rest _ i sp)
 
-    keep-grant-back : Keeps r k c rest (withSlot (siteOf r k c) (someAgent (requeued a c n))) []
+    keep-grant-back : Keeps r k c rest (withSlot (siteOf pref r k c) (someAgent (requeued a c n))) []
     unfolding tally askM markM owedM markAll
     keep-grant-back =
         let line : List Waiter = record { client = c; mode = n } ∷ waiters (a .queue) in
         back-home c (Grant c n) (queueOf line) sp (λ d m. rw (waiters-of line)) (λ d. (refl, refl)) refl (and-right (ltb (c .0) clients) _ back-fits)
 
-    good-grant-back : Good r k c rest (withRoom a c (does (withSlot (siteOf r k c) (someAgent (requeued a c n))) []))
+    good-grant-back : Good r k c rest (withRoom a c (does (withSlot (siteOf pref r k c) (someAgent (requeued a c n))) []))
     unfolding weight tally askM queuedS
     good-grant-back =
         let below : c .0 < clients = ltb-true (c .0) clients (and-left (ltb (c .0) clients) _ back-fits) in
@@ -236,7 +236,7 @@ release-leaves r rest i c p t b x sp =
     }
 
 -- ---- every step at a machine, whose slot is y and h, of the packet p
-module _ (r : LockState) (rest : List Packet) (i : Inv r) (k : MachineId) (kk : k .0 < machines) (h : Agent) (p : Packet) where
+module _ (pref : ℕ) (r : LockState) (rest : List Packet) (i : Inv r) (k : MachineId) (kk : k .0 < machines) (h : Agent) (p : Packet) where
   -- p with this message; the Bools: rejected, an agent is carried
   abbrev came : Message → Bool → Bool → Packet
   came m b x = inParts m (ToMachine k) b x p
@@ -248,7 +248,7 @@ module _ (r : LockState) (rest : List Packet) (i : Inv r) (k : MachineId) (kk : 
 
   -- the site
   abbrev seen : Bool → ClientId → Site
-  seen y c = withSlot (siteOf r k c) (record { present = y; agent = h })
+  seen y c = withSlot (siteOf pref r k c) (record { present = y; agent = h })
 
   -- sent back to the decider
   good-back : (c : ClientId) (y : Bool) {m : Message} (b x : Bool) → Request c m → slotAt r (k .0) ≡ record { present = y; agent = h }
@@ -260,12 +260,12 @@ module _ (r : LockState) (rest : List Packet) (i : Inv r) (k : MachineId) (kk : 
   unfolding acquireArrives marked unmarked
   good-acquire-arrives false c n g b x es sp = good-back c false b x acquire-of es sp
   good-acquire-arrives true c n true b x es sp =
-      good-by r k c rest (isShared (h .mode)) _ cannot-place (λ q. keep-marked r rest i k kk h es c n p b x (shared-is (h .mode) q) sp)
+      good-by r k c rest (isShared (h .mode)) _ cannot-place (λ q. keep-marked pref r rest i k kk h es c n p b x (shared-is (h .mode) q) sp)
       (λ q. impossible i sp (no-marked x (ToMachine k) b _ c n _ (unshared (r .decider .owner) (h .mode) q (slot-home r (k .0) h i es .mode))))
   good-acquire-arrives true c n false b x es sp =
-      good-by r k c rest (mayJoin (seen true c) n) _ (withRoom h c (does (withSlot (siteOf r k c) (someAgent (queuing h c n))) []))
-      (λ q. let both = may-join (seen true c) n q in keep-joins r rest i k kk h es c n p b x (both .0) (both .1) sp)
-      (λ q. good-queues r rest i k kk h es c n p b x sp)
+      good-by r k c rest (mayJoin (seen true c) n) _ (withRoom h c (does (withSlot (siteOf pref r k c) (someAgent (queuing h c n))) []))
+      (λ q. let both = may-join (seen true c) n q in keep-joins pref r rest i k kk h es c n p b x (both .0) (both .1) sp)
+      (λ q. good-queues pref r rest i k kk h es c n p b x sp)
 
   good-release-arrives : (y : Bool) (c : ClientId) (b x : Bool) → slotAt r (k .0) ≡ record { present = y; agent = h } → Split r (came (Release c) b x ∷ []) rest
       → Good r k c rest (releaseArrives (seen y c) (came (Release c) b x) c)
@@ -273,7 +273,8 @@ module _ (r : LockState) (rest : List Packet) (i : Inv r) (k : MachineId) (kk : 
   good-release-arrives false c b x es sp = good-back c false b x release-of es sp
   good-release-arrives true c b x es sp =
       good-by r k c rest (listed h c) (leaves (seen true c) h c) _
-      (λ q. keep-leaves r i k kk h es c (plain-request i release-of sp .below) q (statusAt r (c .0)) _ rest (release-leaves r rest i c p (ToMachine k) b x sp))
+      (λ q. keep-leaves pref r i k kk h es c (plain-request i release-of sp .below) q (statusAt r (c .0)) _ rest
+      (release-leaves r rest i c p (ToMachine k) b x sp))
       (λ q. good-back c true b x release-of es sp)
 
   pub good-arrives : (m : Message) (y b x : Bool) → slotAt r (k .0) ≡ record { present = y; agent = h } → Split r (came m b x ∷ []) rest
@@ -281,13 +282,13 @@ module _ (r : LockState) (rest : List Packet) (i : Inv r) (k : MachineId) (kk : 
   unfolding arrives grantArrives rejectedGrantArrives freeArrives installs agentS
   good-arrives (Acquire c n g) y b x es sp = good-acquire-arrives y c n g b x es sp
   good-arrives (Release c) y b x es sp = good-release-arrives y c b x es sp
-  good-arrives (Grant c n) y false false es sp = rw (← es) (keep-told r rest i k kk c n p (ToMachine k) false sp)
+  good-arrives (Grant c n) y false false es sp = rw (← es) (keep-told pref r rest i k kk c n p (ToMachine k) false sp)
   good-arrives (Grant c n) y true false es sp = absurd (rejected-carries-one r i rest _ sp refl refl)
   good-arrives (Grant c n) true false true es sp = two sp es refl
   good-arrives (Grant c n) true true true es sp = two sp es refl
-  good-arrives (Grant c n) false false true es sp = keep-installs r rest k c n p _ i kk es refl sp
-  good-arrives (Grant c n) false true true es sp = good-grant-back r rest i k kk _ es refl p c n sp
+  good-arrives (Grant c n) false false true es sp = keep-installs pref r rest k c n p _ i kk es refl sp
+  good-arrives (Grant c n) false true true es sp = good-grant-back pref r rest i k kk _ es refl p c n sp
   good-arrives Free true b true es sp = two sp es refl
   good-arrives Free y b false es sp = impossible i sp (no-free _ (ToMachine k) b _)
   good-arrives Free false false true es sp = impossible i sp (no-early _ k _)
-  good-arrives Free false true true es sp = keep-free-back r rest i k kk _ es refl p _ sp
+  good-arrives Free false true true es sp = keep-free-back pref r rest i k kk _ es refl p _ sp

@@ -12,14 +12,15 @@ use Rattle.model.specs.declared.{Message.the-variants.{Free, Acquire, Grant, Re
 use Rattle.model.specs.declared.{ClientState.ClientState, LockState.LockState, Cluster.Cluster}
 use Rattle.model.specs.Lists.{any, all, padded}
 use Rattle.model.specs.States.{locks, machines, tasks, clients, queueCapacity, wireCapacity, blankWaiter, queueOf, noHolders, newAgent, someAgent, noAgent}
-use Rattle.model.specs.States.{idle, plain, blankPacket, wireOf, freshLock}
+use Rattle.model.specs.States.{idle, plain, blankPacket, wireOf, freshLock, preferences}
 use Rattle.model.specs.Drain.{allowance}
 use Rattle.model.specs.WellFormed.{shaped, isBlankWaiter, distinct, queueFormed, agentFormed, isBlankAgent, slotFormed, messageFormed, packetFormed}
 use Rattle.model.specs.WellFormed.{isBlankPacket, wireFormed, lockFormed, wellFormed}
 
--- Document 01's numbers. Everything else goes by their names.
+-- The papers' numbers. Everything else goes by their names.
 pub sizes-are : (locks ≡ 8) × (machines ≡ 4) × (tasks ≡ 4) × (clients ≡ 16) × (queueCapacity ≡ 16) × (wireCapacity ≡ 33) × (allowance ≡ 16384)
-sizes-are = (refl, refl, refl, refl, refl, refl, refl)
+    × (preferences ≡ 2)
+sizes-are = (refl, refl, refl, refl, refl, refl, refl, refl)
 
 -- a well-formed cluster, and one that differs from it in one bound
 pub record Bound : Type 0 where
@@ -51,11 +52,11 @@ abbrev client : ℕ → ClientId
 client c = record { 0 = c }
 
 abbrev state : Owner → List AgentSlot → List ClientState → Wire → LockState
-state o xs cs w = record { decider = record { owner = o; incarnation = 0 }; agents = xs; clients = cs; wire = w }
+state o xs cs w = record { decider = record { owner = o; incarnation = 0; writer = false }; agents = xs; clients = cs; wire = w }
 
--- the lock l is in this state, the others are fresh
+-- the lock l is in this state, the others are fresh, and readers are preferred
 abbrev lock : ℕ → LockState → Cluster
-lock l s = record { locks = set (replicate 8 freshLock) l s }
+lock l s = record { preference = 0; locks = set (replicate 8 freshLock) l s }
 
 abbrev nowhere : List AgentSlot
 nowhere = replicate 4 noAgent
@@ -159,9 +160,26 @@ ofNone places f =
 abbrev ofLocks : List Bound
 ofLocks =
     map (λ l. differ (λ k. lock l (ownedBy k)) 3 4) (below 8)
-    ++ sized (λ ls. record { locks = ls }) 8 freshLock
+    ++ sized (λ ls. record { preference = 1; locks = ls }) 8 freshLock
     ++ sized (λ xs. lock 0 (state Unowned xs allIdle (wireOf []))) 4 noAgent
     ++ sized (λ cs. lock 0 (state Unowned nowhere cs (wireOf []))) 16 idle
+
+-- the preference, and who may know of a writer: not the decider of a lock, owned or free, where readers are preferred
+abbrev ofPreferences : List Bound
+ofPreferences =
+    differ preferring 0 2
+    ∷ differ preferring 1 255
+    ∷ map (λ l. differ (λ n. knowing n l Unowned) 1 0) (below 8)
+    ++ (differ (λ n. knowing n 0 (Owned Exclusive (machine 1))) 1 0 ∷ [])
+  where
+    preferring : ℕ → Cluster
+    preferring n = record { preference = n; locks = replicate 8 freshLock }
+
+    knows : Owner → LockState
+    knows o = record { decider = record { owner = o; incarnation = 0; writer = true }; agents = nowhere; clients = allIdle; wire = wireOf [] }
+
+    knowing : ℕ → ℕ → Owner → Cluster
+    knowing n l o = record { preference = n; locks = set (replicate 8 freshLock) l (knows o) }
 
 abbrev last : List ℕ
 last = 15 ∷ []
@@ -223,7 +241,7 @@ ofWires =
 abbrev Tested : List Bound → Type 0
 Tested bs = (all (λ (b : Bound). wellFormed (b .within)) bs ≡ true) × (any (λ (b : Bound). wellFormed (b .outside)) bs ≡ false)
 
-pub bounds-tested : Tested ofLocks × Tested ofSlots × Tested ofCarried × Tested ofMessages × Tested ofWires
+pub bounds-tested : Tested ofLocks × Tested ofPreferences × Tested ofSlots × Tested ofCarried × Tested ofMessages × Tested ofWires
 unfolding wellFormed lockFormed wireFormed packetFormed messageFormed slotFormed agentFormed isBlankAgent isBlankPacket isBlankWaiter queueFormed distinct
     shaped padded queueOf noAgent blankPacket wireOf freshLock
-bounds-tested = ((refl, refl), (refl, refl), (refl, refl), (refl, refl), (refl, refl))
+bounds-tested = ((refl, refl), (refl, refl), (refl, refl), (refl, refl), (refl, refl), (refl, refl))

@@ -30,7 +30,7 @@ names-none c (p ∷ ps) e =
     let here = ap flag (or-left (names c p) (any (names c) ps) e) in
     omega (arith, names-are c (p .message), names-none c ps (or-right (names c p) (any (names c) ps) e))
 
-module _ (r : LockState) (i : Inv r) (c : ClientId) (cl : c .0 < clients) (id : statusAt r (c .0) ≡ Idle)
+module _ (pref : ℕ) (r : LockState) (i : Inv r) (c : ClientId) (cl : c .0 < clients) (id : statusAt r (c .0) ≡ Idle)
     (unnamed : tally (λ p. namesM (c .0) (p .message)) (packets (r .wire)) ≡ 0) where
   abbrev ps : List Packet
   ps = packets (r .wire)
@@ -54,13 +54,14 @@ module _ (r : LockState) (i : Inv r) (c : ClientId) (cl : c .0 < clients) (id : 
       (λ q. rw q (omega (arith, i .rels d)))
 
   -- no agent on its machine
-  keep-asks : (k : MachineId) → k .0 < machines → (m : Mode) → Keeps r k c ps (withStatus (siteOf r k c) (Waiting m)) (plain (Acquire c m false) ToDecider ∷ [])
+  keep-asks : (k : MachineId) → k .0 < machines → (m : Mode)
+      → Keeps r k c ps (withStatus (siteOf pref r k c) (Waiting m)) (plain (Acquire c m false) ToDecider ∷ [])
   unfolding tally askM markM owedM releaseM markAll queuedS listedS agentS incarnationS one hit waitF holdF idleF clash misfitP fits noAgent
   keep-asks k kk m =
       let move = status-move i cl id (Waiting m) in
       keep i
       (record {
-        frame = framed (split-none r) kk refl refl;
+        frame = framed (split-none r) kk refl refl refl;
         waits = λ d n. omega (arith, move (waitF n) d);
         holds = λ d. omega (arith, move holdF d);
         rels = λ d. omega (arith, move idleF d, rels-asker d);
@@ -75,14 +76,14 @@ module _ (r : LockState) (i : Inv r) (c : ClientId) (cl : c .0 < clients) (id : 
 
   module _ (k : MachineId) (kk : k .0 < machines) (h : Agent) (es : slotAt r (k .0) ≡ someAgent h) where
     -- agent and request both shared
-    keep-joins : h .mode ≡ Shared → Keeps r k c ps (withSlot (withStatus (siteOf r k c) (Holding Shared)) (someAgent (joining h c))) []
+    keep-joins : h .mode ≡ Shared → Keeps r k c ps (withSlot (withStatus (siteOf pref r k c) (Holding Shared)) (someAgent (joining h c))) []
     unfolding tally weight queuedS listedS agentS incarnationS one waitF holdF idleF vacantS
     keep-joins sh =
         let move = status-move i cl id (Holding Shared) in
         let home : Home (r .decider .owner) (k .0) h = slot-home r (k .0) h i es in
         keep i
         (record {
-          frame = framed (split-none r) kk es refl;
+          frame = framed (split-none r) kk es refl refl;
           waits = λ d n. omega (arith, move (waitF n) d);
           holds = λ d. omega (arith, move holdF d, joins-listed i kk es c cl (h .incarnation) (omega (arith, unlisted)) d);
           rels = λ d. omega (arith, move idleF d, rels-asker d);
@@ -100,13 +101,13 @@ module _ (r : LockState) (i : Inv r) (c : ClientId) (cl : c .0 < clients) (id : 
     unfolding queuedS
     in-line d m = omega (arith, in-slot r (waitingP d m) (queuedS d m) (k .0) (someAgent h) i kk es, i .waits d m)
 
-    keep-queues : (m : Mode) → Keeps r k c ps (withSlot (withStatus (siteOf r k c) (Waiting m)) (someAgent (queuing h c m))) []
+    keep-queues : (m : Mode) → Keeps r k c ps (withSlot (withStatus (siteOf pref r k c) (Waiting m)) (someAgent (queuing h c m))) []
     unfolding tally listedS agentS incarnationS one hit waitF holdF idleF clash vacantS misfitS fitsHome
     keep-queues m =
         let move = status-move i cl id (Waiting m) in
         keep i
         (record {
-          frame = framed (split-none r) kk es refl;
+          frame = framed (split-none r) kk es refl refl;
           waits = λ d n. omega (arith, move (waitF n) d, queued-one h c m d n);
           holds = λ d. omega (arith, move holdF d);
           rels = λ d. omega (arith, move idleF d, rels-asker d);
@@ -120,18 +121,18 @@ module _ (r : LockState) (i : Inv r) (c : ClientId) (cl : c .0 < clients) (id : 
         })
 
     abbrev queues : Mode → Verdict
-    queues m = withRoom h c (does (withSlot (withStatus (siteOf r k c) (Waiting m)) (someAgent (queuing h c m))) [])
+    queues m = withRoom h c (does (withSlot (withStatus (siteOf pref r k c) (Waiting m)) (someAgent (queuing h c m))) [])
 
     -- by the test of the site v, whose slot has the agent
     good-home : (v : Site) → v .slot ≡ someAgent h → (m : Mode)
-        → Good r k c ps (pick (mayJoin v m) (does (withSlot (withStatus (siteOf r k c) (Holding m)) (someAgent (joining h c))) []) (queues m))
+        → Good r k c ps (pick (mayJoin v m) (does (withSlot (withStatus (siteOf pref r k c) (Holding m)) (someAgent (joining h c))) []) (queues m))
     good-home v e m =
         good-by r k c ps (mayJoin v m) _ (queues m) (λ q. let both = may-join v m q in rw (both .1) (keep-joins (rw e at (both .0))))
         (λ q. good-room h (room-idle r i (waiters (h .queue)) in-line c cl id) (keep-queues m))
 
   -- the site: y, h are its slot
   abbrev seen : Bool → Agent → Site
-  seen y h = withSlot (siteOf r (machineOf c) c) (record { present = y; agent = h })
+  seen y h = withSlot (siteOf pref r (machineOf c) c) (record { present = y; agent = h })
 
   good-client-asks : (m : Mode) (y : Bool) (h : Agent) → slotAt r (machineOf c .0) ≡ record { present = y; agent = h }
       → Good r (machineOf c) c ps (clientAsks (seen y h) c m y h)
@@ -139,12 +140,12 @@ module _ (r : LockState) (i : Inv r) (c : ClientId) (cl : c .0 < clients) (id : 
   good-client-asks m false h es = rw (← es) (keep-asks (machineOf c) (omega arith) m)
   good-client-asks m true h es = good-home (machineOf c) (omega arith) h es (seen true h) refl m
 
-  pub good-client-acquires : (m : Mode) → Good r (machineOf c) c ps (clientAcquires (siteOf r (machineOf c) c) c m)
+  pub good-client-acquires : (m : Mode) → Good r (machineOf c) c ps (clientAcquires (siteOf pref r (machineOf c) c) c m)
   unfolding clientAcquires
   good-client-acquires m = good-client-asks m (agentOn r (machineOf c) .present) (agentOn r (machineOf c) .agent) refl
 
 -- ---- a client that holds lets go
-module _ (r : LockState) (i : Inv r) (c : ClientId) (cl : c .0 < clients) (m : Mode) (ho : statusAt r (c .0) ≡ Holding m) where
+module _ (pref : ℕ) (r : LockState) (i : Inv r) (c : ClientId) (cl : c .0 < clients) (m : Mode) (ho : statusAt r (c .0) ≡ Holding m) where
   -- every count of its status, which becomes idle
   move : (F : Status → ℕ) (d : ℕ) → F (told r c Idle d) + one d c * F (Holding m) ≡ F (statusAt r d) + one d c * F Idle
   move = status-move i cl ho Idle
@@ -155,12 +156,12 @@ module _ (r : LockState) (i : Inv r) (c : ClientId) (cl : c .0 < clients) (m : M
   held-fits (Owned n k) e = rw (lt-ltb (c .0) clients cl)
 
   -- no agent on its machine lists it
-  keep-releases : (k : MachineId) → k .0 < machines → Keeps r k c (packets (r .wire)) (withStatus (siteOf r k c) Idle) (plain (Release c) ToDecider ∷ [])
+  keep-releases : (k : MachineId) → k .0 < machines → Keeps r k c (packets (r .wire)) (withStatus (siteOf pref r k c) Idle) (plain (Release c) ToDecider ∷ [])
   unfolding tally askM markM owedM releaseM markAll queuedS listedS agentS incarnationS one waitF holdF idleF clash noAgent
   keep-releases k kk =
       keep i
       (record {
-        frame = framed (split-none r) kk refl refl;
+        frame = framed (split-none r) kk refl refl refl;
         waits = λ d n. omega (arith, move (waitF n) d);
         holds = λ d. omega (arith, move holdF d);
         rels = λ d. omega (arith, i .rels d, move idleF d);
@@ -190,13 +191,13 @@ module _ (r : LockState) (i : Inv r) (c : ClientId) (cl : c .0 < clients) (m : M
       }
 
   good-lets-go : (y : Bool) (h : Agent) → slotAt r (machineOf c .0) ≡ record { present = y; agent = h }
-      → Good r (machineOf c) c (packets (r .wire)) (clientReleases (withSlot (siteOf r (machineOf c) c) (record { present = y; agent = h })) c)
+      → Good r (machineOf c) c (packets (r .wire)) (clientReleases (withSlot (siteOf pref r (machineOf c) c) (record { present = y; agent = h })) c)
   unfolding clientReleases
   good-lets-go false h es = rw (← es) (keep-releases (machineOf c) (omega arith))
   good-lets-go true h es =
-      good-by r (machineOf c) c (packets (r .wire)) (listed h c) (leaves (withSlot (withStatus (siteOf r (machineOf c) c) Idle) (someAgent h)) h c) _
-      (λ q. keep-leaves r i (machineOf c) (omega arith) h es c cl q Idle [] (packets (r .wire)) holder-leaves)
+      good-by r (machineOf c) c (packets (r .wire)) (listed h c) (leaves (withSlot (withStatus (siteOf pref r (machineOf c) c) Idle) (someAgent h)) h c) _
+      (λ q. keep-leaves pref r i (machineOf c) (omega arith) h es c cl q Idle [] (packets (r .wire)) holder-leaves)
       (λ q. rw (← es) (keep-releases (machineOf c) (omega arith)))
 
-  pub good-client-releases : Good r (machineOf c) c (packets (r .wire)) (clientReleases (siteOf r (machineOf c) c) c)
+  pub good-client-releases : Good r (machineOf c) c (packets (r .wire)) (clientReleases (siteOf pref r (machineOf c) c) c)
   good-client-releases = good-lets-go (agentOn r (machineOf c) .present) (agentOn r (machineOf c) .agent) refl

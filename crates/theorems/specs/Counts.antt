@@ -97,9 +97,12 @@ module _ (s : LockState) (i : Inv s) where
   unfolding freeM
   frees-one = omega (arith, count-tally (λ (p : Packet). isFree (p .message)) ps, frees s i)
 
-pub incarnation-sound : (cs : List Call) → IncarnationSound cs
-incarnation-sound cs =
-    record { bounded = λ l. rw (marks-are _ (reached cs .invs l)) (marks-bound _ (reached cs .invs l)); sound = λ l. current-sound _ (reached cs .invs l) }
+pub incarnation-sound : (n : ℕ) (cs : List Call) → IncarnationSound n cs
+incarnation-sound n cs =
+    record {
+      bounded = λ l. rw (marks-are _ (reached n cs .invs l)) (marks-bound _ (reached n cs .invs l));
+      sound = λ l. current-sound _ (reached n cs .invs l);
+    }
 
 -- ---- no answer is 9 or 10
 small-placed : (a : Answer) → leb (number a) 8 ≡ true → isPlaced a ≡ true
@@ -120,11 +123,11 @@ drain-placed : (x : Cluster) (l : LockId) (phase : ClientId → Status) → Drai
 drain-placed x l phase d =
     both (isPlaced (drain x l .answer)) _ (rw (isPlaced, d .answered)) (all-so isAccepted isPlaced accepted-placed (answersOf (drainCalls l x) x) (d .accepted))
 
-pub thirty-three : (cs : List Call) → ThirtyThree cs
+pub thirty-three : (n : ℕ) (cs : List Call) → ThirtyThree n cs
 unfolding ownedF
-thirty-three cs l =
-    let s : LockState = lockIn (after cs) l in
-    let i : Inv s = reached cs .invs l in
+thirty-three n cs l =
+    let s : LockState = lockIn (after n cs) l in
+    let i : Inv s = reached n cs .invs l in
     record {
       free = λ e. agents-are s i ∙ rw e;
       owned = λ m k e. agents-are s i ∙ rw e;
@@ -134,6 +137,6 @@ thirty-three cs l =
       named = named s i;
       frees = frees-one s i;
       wire = wire-bound s i;
-      calls = all-so (λ (a : Answer). leb (number a) 8) isPlaced small-placed (answersOf cs fresh) (never-refused-inside cs);
-      drains = λ lb. drain-placed (after cs) l _ (demand3 cs .drains l lb);
+      calls = all-so (λ (a : Answer). leb (number a) 8) isPlaced small-placed (answersOf cs (fresh n .cluster)) (never-refused-inside n cs);
+      drains = λ lb. drain-placed (after n cs) l _ (demand3 n cs .drains l lb);
     }

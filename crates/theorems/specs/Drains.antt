@@ -92,13 +92,13 @@ module _ (x : Cluster) (l : LockId) (lb : l .0 < locks) (h : Reached x) where
   abbrev s : LockState
   s = lockIn x l
 
-  next-falls : (a : Call) → NextIs l s a → rank (stepOf a s .state) < rank s
+  next-falls : (a : Call) → NextIs l s a → rank (stepOf (x .preference) a s .state) < rank s
   next-falls _ (delivers-first b) = go (packets (s .wire)) refl b
     where
-      go : (ps : List Packet) → packets (s .wire) ≡ ps → 0 < length ps → rank (deliverStep s 0 .state) < rank s
+      go : (ps : List Packet) → packets (s .wire) ≡ ps → 0 < length ps → rank (deliverStep (x .preference) s 0 .state) < rank s
       go [] e b = absurd (omega arith)
-      go (p ∷ ps) e b = deliver-falls s (h .invs l) p ps e
-  next-falls _ (releases-holder k t m i b e st) = release-falls s (h .invs l) (clientOf k t) m (omega (arith, h .invs l .all-clients)) st
+      go (p ∷ ps) e b = deliver-falls (x .preference) s (h .invs l) p ps e
+  next-falls _ (releases-holder k t m i b e st) = release-falls (x .preference) s (h .invs l) (clientOf k t) m (omega (arith, h .invs l .all-clients)) st
 
   next-counted : (a : Call) → NextIs l s a → Counted l a x
   next-counted _ (delivers-first b) = deliver-counted x l 0 (h .invs l) b
@@ -111,11 +111,14 @@ module _ (x : Cluster) (l : LockId) (lb : l .0 < locks) (h : Reached x) where
     where
       stepping : (a : Call) → nextCall l s ≡ some a → NextIs l s a → Goes l x a → Onward x l
       stepping a e n g =
-          steps a e (g .lock) (ap (λ (o : Outcome). o .answer) (g .step) ∙ rw (g .lock, sound-step a s (g .allowed) (h .invs l) .taken)) (next-counted a n)
+          steps a e (g .lock) (ap (λ (o : Outcome). o .answer) (g .step) ∙ rw (g .lock, sound-step (x .preference) a s (g .allowed) (h .invs l) .taken))
+          (next-counted a n)
           (rw (← g .lock) (rw (perform-here a x (h .formed) (rw (g .lock) lb) (g .step), g .lock) (next-falls a n)))
 
       go : (n : Next) → nextCall l s ≡ n → Onward x l
-      go none e = let r = rests l s e in stops e (is-fresh s (h .invs l) (lock-formed x l (h .formed) lb) (r .wire) (λ d. not-holding _ (r .nobody d)))
+      go none e =
+          let r = rests l s e in
+          stops e (is-fresh (x .preference) s (h .invs l) (lock-formed x l (h .formed) lb) (r .wire) (λ d. not-holding _ (r .nobody d)))
       go (some a) e = let n = next-is l s a e in stepping a e n (goes l x a (h .formed) lb n)
 
 -- ---- the whole drain
@@ -234,6 +237,10 @@ pub drains-reached : (x : Cluster) (l : LockId) → l .0 < locks → Reached x �
 drains-reached x l lb h = drains-by x l lb h _ (λ c. refl)
 
 -- ---- demand 3, for every list of calls
-pub demand3 : (cs : List Call) → Demand3 cs
-demand3 cs =
-    record { trace = trace-agrees cs; exclusion = exclusion-of-trace cs; drains = λ l lb. drains-by (after cs) l lb (reached cs) _ (trace-agrees cs l) }
+pub demand3 : (n : ℕ) (cs : List Call) → Demand3 n cs
+demand3 n cs =
+    record {
+      trace = trace-agrees n cs;
+      exclusion = exclusion-of-trace n cs;
+      drains = λ l lb. drains-by (after n cs) l lb (reached n cs) _ (trace-agrees n cs l);
+    }

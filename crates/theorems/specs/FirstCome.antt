@@ -31,7 +31,8 @@ module _ (m : Mode) where
   barred (w ∷ ws) = bool-cases (mayLeave m w) (λ e. rw e (barred ws)) (λ e. rw e (ap (λ (b : Bool). not b && true) e))
 
 -- ---- of a delivery
-module _ (s : LockState) (i : ℕ) (k : MachineId) (c : ClientId) (m : Mode) (a : Agent) (brings : packetAt s i ≡ carrying (Grant c m) (ToMachine k) a) where
+module _ (pref : ℕ) (s : LockState) (i : ℕ) (k : MachineId) (c : ClientId) (m : Mode) (a : Agent)
+    (brings : packetAt s i ≡ carrying (Grant c m) (ToMachine k) a) where
   abbrev rest : List Packet
   rest = removed (packets (s .wire)) i
 
@@ -49,7 +50,7 @@ module _ (s : LockState) (i : ℕ) (k : MachineId) (c : ClientId) (m : Mode) (a 
   sent = map grantOf (admitted m line)
 
   abbrev then : LockState
-  then = apply k c (withSlot (withStatus (siteOf s k c) (Holding m)) (someAgent (installed m c a))) sent rest s
+  then = apply k c (withSlot (withStatus (siteOf pref s k c) (Holding m)) (someAgent (installed m c a))) sent rest s
 
   installed-so : k .0 < length (s .agents) → FirstCome s then i k m a
   installed-so h =
@@ -64,12 +65,12 @@ module _ (s : LockState) (i : ℕ) (k : MachineId) (c : ClientId) (m : Mode) (a 
       }
 
   -- where there was one already, or the wire has no room, the step is refused
-  delivered-so : k .0 < length (s .agents) → deliverStep s i .answer ≡ Accepted → FirstCome s (deliverStep s i .state) i k m a
+  delivered-so : k .0 < length (s .agents) → deliverStep pref s i .answer ≡ Accepted → FirstCome s (deliverStep pref s i .state) i k m a
   unfolding deliverStep takes delivers atMachine arrives grantArrives installs finish
   delivered-so h e = rw brings (go (agentOn s k .present) (rw brings at e))
     where
-      go : (here : Bool) → finish k c (grantArrives here true (siteOf s k c) a c m) rest s .answer ≡ Accepted
-          → FirstCome s (finish k c (grantArrives here true (siteOf s k c) a c m) rest s .state) i k m a
+      go : (here : Bool) → finish k c (grantArrives here true (siteOf pref s k c) a c m) rest s .answer ≡ Accepted
+          → FirstCome s (finish k c (grantArrives here true (siteOf pref s k c) a c m) rest s .state) i k m a
       go true e = absurd (not-accepted e)
       go false e =
           pick-by (λ (t : Stepped). t .answer ≡ Accepted → FirstCome s (t .state) i k m a) (leb (length rest + length sent) wireCapacity)
@@ -88,4 +89,5 @@ first-come x l i k c m a brings e = go (g .allowed)
         let s : LockState = lockIn x l in
         let p = parts s (lock-formed x l (g .formed) (g .inside)) in
         let kk : k .0 < machines = ltb-true (k .0) machines (rw brings at (packet-at p i h .address)) in
-        rw (perform-here (DeliverCall l i) x (g .formed) (g .inside) (g .call)) (delivered-so s i k c m a brings (omega (arith, p .all-machines)) (g .step))
+        rw (perform-here (DeliverCall l i) x (g .formed) (g .inside) (g .call))
+        (delivered-so (x .preference) s i k c m a brings (omega (arith, p .all-machines)) (g .step))

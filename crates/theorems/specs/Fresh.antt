@@ -2,6 +2,7 @@
 use Rattle.theorems.specs.Names.{Idle, _≡_, refl, [], ℕ, zero, suc, arith, getD, replicate, idle, noAgent, freshLock, packets-of, machines, clients}
 use Rattle.theorems.specs.Tally.{tally}
 use Rattle.theorems.specs.Weights.{statusAt, slotAt, weight, queuedS, listedS, agentS, incarnationS, vacantS, waitF, holdF, idleF, ownedF, clash, misfitS}
+use Rattle.theorems.specs.Weights.{waitedF}
 use Rattle.theorems.specs.Invariant.{Inv}
 
 all-same : {A : Type 0} (x : A) (n d : ℕ) → getD (replicate n x) d x ≡ x
@@ -18,7 +19,7 @@ unfolding freshLock
 no-slot k = all-same noAgent machines k
 
 pub inv-fresh : Inv freshLock
-unfolding freshLock noAgent tally weight queuedS listedS agentS incarnationS waitF holdF idleF ownedF clash misfitS vacantS
+unfolding freshLock noAgent tally weight queuedS listedS agentS incarnationS waitF holdF idleF ownedF clash misfitS vacantS waitedF
 inv-fresh =
     record {
       all-machines = refl;
@@ -33,4 +34,5 @@ inv-fresh =
       homes = λ k. rw (no-slot k);
       reach = rw (packets-of []);
       vacancy = rw (packets-of []) (omega arith);
+      quiet = refl;
     }

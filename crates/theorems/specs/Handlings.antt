@@ -25,7 +25,7 @@ abbrev NoRequests : Verdict → Type 0
 NoRequests cannot-place = Unit {0}
 NoRequests (does v qs) = all (λ (p : Packet). not (isRequest (p .message))) qs ≡ true
 
-module _ (s : LockState) (i : ℕ) (k : MachineId) (c : ClientId) where
+module _ (pref : ℕ) (s : LockState) (i : ℕ) (k : MachineId) (c : ClientId) where
   abbrev rest : List Packet
   rest = removed (packets (s .wire)) i
 
@@ -33,7 +33,7 @@ module _ (s : LockState) (i : ℕ) (k : MachineId) (c : ClientId) where
   p = packetAt s i
 
   abbrev v : Site
-  v = siteOf s k c
+  v = siteOf pref s k c
 
   went-back : finish k c (sendsBack v p) rest s .answer ≡ Accepted → WentBack s (finish k c (sendsBack v p) rest s .state) i
   unfolding finish
@@ -82,17 +82,17 @@ module _ (s : LockState) (i : ℕ) (k : MachineId) (c : ClientId) where
   released false false h j e = no-agent refl h (went-back e)
 
 -- ---- of a delivery to a machine, by its packet's message
-delivered : (s : LockState) (i : ℕ) (k : MachineId) → packetAt s i .to ≡ ToMachine k → deliverStep s i .answer ≡ Accepted
-    → Handled s (deliverStep s i .state) i k (packetAt s i .message) (deliverStep s i .handling)
+delivered : (pref : ℕ) (s : LockState) (i : ℕ) (k : MachineId) → packetAt s i .to ≡ ToMachine k → deliverStep pref s i .answer ≡ Accepted
+    → Handled s (deliverStep pref s i .state) i k (packetAt s i .message) (deliverStep pref s i .handling)
 unfolding deliverStep takes delivers handledAt atMachine arrives releaseArrives handles
-delivered s i k t e = rw t (by-answer _ (rw t at e) (go (packetAt s i .message) (rw t at e)))
+delivered pref s i k t e = rw t (by-answer _ (rw t at e) (go (packetAt s i .message) (rw t at e)))
   where
     step : Message → Stepped
-    step m = finish k (clientNamed m) (arrives m (siteOf s k (clientNamed m)) (packetAt s i)) (removed (packets (s .wire)) i) s
+    step m = finish k (clientNamed m) (arrives m (siteOf pref s k (clientNamed m)) (packetAt s i)) (removed (packets (s .wire)) i) s
 
     go : (m : Message) → step m .answer ≡ Accepted → Handled s (step m .state) i k m (handles m (agentOn s k))
-    go (Acquire c m g) e = acquired s i k c m g (agentOn s k .present) refl e
-    go (Release c) e = released s i k c (agentOn s k .present) (lists (agentOn s k) c) refl refl e
+    go (Acquire c m g) e = acquired pref s i k c m g (agentOn s k .present) refl e
+    go (Release c) e = released pref s i k c (agentOn s k .present) (lists (agentOn s k) c) refl refl e
     go (Grant c m) e = no-request refl
     go Free e = no-request refl
 
@@ -101,11 +101,11 @@ delivered s i k t e = rw t (by-answer _ (rw t at e) (go (packetAt s i .message) 
     by-answer m e h = rw e h
 
 -- ---- no other step tells one, and no refused call
-decider-tells : (s : LockState) (i : ℕ) → packetAt s i .to ≡ ToDecider → deliverStep s i .handling ≡ None
+decider-tells : (pref : ℕ) (s : LockState) (i : ℕ) → packetAt s i .to ≡ ToDecider → deliverStep pref s i .handling ≡ None
 unfolding deliverStep takes handledAt
-decider-tells s i t =
+decider-tells pref s i t =
     let h : handledAt (packetAt s i .to) (packetAt s i .message) (agentOn s (machineAt (packetAt s i .to))) ≡ None = rw t in
-    told-none (deliverStep s i .answer) h
+    told-none (deliverStep pref s i .answer) h
 
 module _ (x : Cluster) (l : LockId) (t : Stepped) where
   unless-tells : (a : Answer) → t .handling ≡ None → unless a x l t .handling ≡ None
@@ -181,8 +181,8 @@ tells-why x =
       at-machine = λ l i k t e.
           let g = passes (DeliverCall l i) x e in
           rw (perform-here (DeliverCall l i) x (g .formed) (g .inside) (g .call), ap (λ (o : Outcome). o .handling) (g .call), g .step)
-          (delivered (lockIn x l) i k t (g .step));
-      at-decider = λ l i t. unless-tells x l _ _ (decider-tells (lockIn x l) i t);
+          (delivered (x .preference) (lockIn x l) i k t (g .step));
+      at-decider = λ l i t. unless-tells x l _ _ (decider-tells (x .preference) (lockIn x l) i t);
       acquires = λ l k t m. unless-tells x l _ _ (finish-tells _ _ _ _ _);
       releases = λ l k t. unless-tells x l _ _ (finish-tells _ _ _ _ _);
       refused = λ c r e. refused-call c x r e;

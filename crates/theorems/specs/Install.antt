@@ -32,7 +32,7 @@ coming o k c n a e =
     record { below = ltb-true (c .0) clients (and-left _ _ f); at = and-left _ _ f1; mode = and-left _ _ f2; away = away }
 
 -- the GRANT is the packet p
-module _ (r : LockState) (rest : List Packet) (k : MachineId) (c : ClientId) (n : Mode) (p : Packet) (old : AgentSlot) where
+module _ (pref : ℕ) (r : LockState) (rest : List Packet) (k : MachineId) (c : ClientId) (n : Mode) (p : Packet) (old : AgentSlot) where
   abbrev a : Agent
   a = p .carried .agent
 
@@ -104,12 +104,12 @@ module _ (r : LockState) (rest : List Packet) (k : MachineId) (c : ClientId) (n 
         let e : one (c .0) c ≡ 1 = rw (eq-eqb (c .0) (c .0) refl) in
         ne-eqb (tally flag holders′) 0 (λ z. omega (arith, z, nobody holders′ (c .0) z, lists (c .0)))
 
-    pub keep-installs : Good r k c rest (installs (siteOf r k c) c n a)
+    pub keep-installs : Good r k c rest (installs (siteOf pref r k c) c n a)
     unfolding tally askM markM owedM releaseM markAll queuedS listedS agentS incarnationS misfitP misfitS vacantS one hit waitF holdF idleF installs noAgent
     keep-installs =
         keep i
         (record {
-          frame = framed sp kk es refl;
+          frame = framed sp kk es refl refl;
           waits = λ d m.
               rw (waiters-of (staying n line))
               (omega (arith, bare .queuedS d m, moved (waitF m) d, grants-count n (waitingP d m) (hitW d m) (λ e. omega arith) line, parted n (hitW d m) line));

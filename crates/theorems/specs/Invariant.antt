@@ -3,6 +3,7 @@ use Rattle.theorems.specs.Names.{_≡_, ℕ, _+_, _≤_, _%_, length, Mo
 use Rattle.theorems.specs.Tally.{tally}
 use Rattle.theorems.specs.Weights.{statusAt, slotAt, weight, waitingP, queuedS, listedP, listedS, owedP, releaseP, agentP, agentS, incarnationP}
 use Rattle.theorems.specs.Weights.{incarnationS, markP, rejectedP, vacantS, waitF, holdF, idleF, ownedF, clash, farF, farP, misfitP, misfitS}
+use Rattle.theorems.specs.Weights.{waitedF}
 
 pub record Inv (r : LockState) : Type 0 where
   pub all-machines : length (r .agents) ≡ machines
@@ -25,3 +26,5 @@ pub record Inv (r : LockState) : Type 0 where
   pub reach : farF (r .decider .owner) + tally farP (packets (r .wire)) ≡ 0
   -- an agent on a machine that lists nobody, and a rejected packet, mean a mark on the wire
   pub vacancy : weight rejectedP vacantS r ≤ tally markP (packets (r .wire))
+  -- at a free lock the decider knows of no writer
+  pub quiet : waitedF (r .decider .owner) (r .decider .writer) ≡ 0

@@ -2,10 +2,11 @@
 -- and client c; v is the site after it; the packets gone leave the wire, qs are sent, rest stays.
 use Rattle.theorems.specs.Names.{MachineId, ClientId, Mode, AgentSlot, Packet, Status, LockState, _≡_, refl, ap, _∙_, List, [], _∷_, _++_, ℕ, _+_, _-_}
 use Rattle.theorems.specs.Names.{_≤_, _<_, _%_, arith, ℕ-discrete, length, getD, set, length-set, set-getD, getD-set-same, getD-set-other, removed, idle}
-use Rattle.theorems.specs.Names.{noAgent, blankPacket, packets, Site, siteOf, apply, wireOf, packets-of, machines, sym, withSlot}
+use Rattle.theorems.specs.Names.{noAgent, blankPacket, packets, Site, siteOf, apply, wireOf, packets-of, machines, sym, withSlot, Owned, noting}
 use Rattle.theorems.specs.Tally.{tally, tally-one, tally-append, tally-removed, tally-set, tally-at}
 use Rattle.theorems.specs.Weights.{statusAt, slotAt, weight, queuedS, waitingP, listedS, listedP, owedP, releaseP, agentS, agentP, incarnationS}
 use Rattle.theorems.specs.Weights.{incarnationP, markP, rejectedP, vacantS, waitF, holdF, idleF, ownedF, clash, farP, farF, misfitS, misfitP}
+use Rattle.theorems.specs.Weights.{waitedF}
 use Rattle.theorems.specs.Invariant.{Inv}
 
 pub packets-after : (f : Packet → ℕ) (rest qs : List Packet) → tally f (packets (wireOf (rest ++ qs))) ≡ tally f rest + tally f qs
@@ -55,6 +56,7 @@ pub record Step (r : LockState) (k : MachineId) (c : ClientId) (old : AgentSlot)
   pub homes : (j : ℕ) → misfitS (v .decider .owner) j (slotAt (apply k c v qs rest r) j) ≡ 0
   pub reach : farF (v .decider .owner) + tally farP qs ≡ 0
   pub vacancy : tally rejectedP rest + tally rejectedP qs + tally vacantS (set (r .agents) (k .0) (v .slot)) ≤ tally markP rest + tally markP qs
+  pub quiet : waitedF (v .decider .owner) (v .decider .writer) ≡ 0
 
 module _ {r : LockState} {k : MachineId} {c : ClientId} {old : AgentSlot} {v : Site} {gone qs rest : List Packet}
     (i : Inv r) (l : Step r k c old v gone qs rest) where
@@ -107,6 +109,7 @@ module _ {r : LockState} {k : MachineId} {c : ClientId} {old : AgentSlot} {v : S
           homes = l .homes;
           reach = omega (arith, packets-after farP rest qs, l .reach, i .reach, l .split .parts farP);
           vacancy = vacant-after;
+          quiet = l .quiet;
         };
       }
 
@@ -116,10 +119,12 @@ pub record Frame (r : LockState) (k : MachineId) (old : AgentSlot) (v : Site) (g
   pub machine : k .0 < machines
   pub was : slotAt r (k .0) ≡ old
   pub owner : v .decider .owner ≡ r .decider .owner
+  pub quiet : waitedF (r .decider .owner) (v .decider .writer) ≡ waitedF (r .decider .owner) (r .decider .writer)
 
 pub framed : {r : LockState} {k : MachineId} {old : AgentSlot} {v : Site} {gone rest : List Packet} → Split r gone rest → k .0 < machines
-    → slotAt r (k .0) ≡ old → v .decider .owner ≡ r .decider .owner → Frame r k old v gone rest
-framed sp kk es o = record { split = sp; machine = kk; was = es; owner = o }
+    → slotAt r (k .0) ≡ old → v .decider .owner ≡ r .decider .owner
+    → waitedF (r .decider .owner) (v .decider .writer) ≡ waitedF (r .decider .owner) (r .decider .writer) → Frame r k old v gone rest
+framed sp kk es o q = record { split = sp; machine = kk; was = es; owner = o; quiet = q }
 
 -- What such a step has to show: nothing of it speaks of the wire's other packets.
 pub record Local (r : LockState) (k : MachineId) (c : ClientId) (old : AgentSlot) (v : Site) (gone qs rest : List Packet) : Type 0 where
@@ -164,6 +169,7 @@ module _ {r : LockState} {k : MachineId} {c : ClientId} {old : AgentSlot} {v : S
         homes = λ j. rw (l .frame .owner) (keep-slots j);
         reach = omega (arith, l .reach, ap farF (l .frame .owner), i .reach);
         vacancy = l .vacancy;
+        quiet = rw (l .frame .owner) (l .frame .quiet ∙ i .quiet);
       })
 
 -- and that changes no client
@@ -222,11 +228,18 @@ same-mark r p rest i sp = omega (arith, i .vacancy, sp .parts rejectedP)
 pub record Still (r : LockState) (k : MachineId) (c : ClientId) (v : Site) : Type 0 where
   pub owner : v .decider .owner ≡ r .decider .owner
   pub incarnation : v .decider .incarnation ≡ r .decider .incarnation
+  pub quiet : waitedF (r .decider .owner) (v .decider .writer) ≡ waitedF (r .decider .owner) (r .decider .writer)
   pub slot : v .slot ≡ slotAt r (k .0)
   pub status : v .status ≡ statusAt r (c .0)
 
-pub still : {r : LockState} {k : MachineId} {c : ClientId} {x : AgentSlot} → slotAt r (k .0) ≡ x → Still r k c (withSlot (siteOf r k c) x)
-still es = record { owner = refl; incarnation = refl; slot = sym es; status = refl }
+pub still : {pref : ℕ} {r : LockState} {k : MachineId} {c : ClientId} {x : AgentSlot} → slotAt r (k .0) ≡ x → Still r k c (withSlot (siteOf pref r k c) x)
+still es = record { owner = refl; incarnation = refl; quiet = refl; slot = sym es; status = refl }
+
+-- and so it is where the decider of an owned lock may have noted a writer
+pub noted : {pref : ℕ} {r : LockState} {k : MachineId} {c : ClientId} {o : Mode} {j : MachineId} (m : Mode) → r .decider .owner ≡ Owned o j
+    → Still r k c (noting (siteOf pref r k c) m)
+unfolding waitedF
+noted m e = record { owner = refl; incarnation = refl; quiet = rw e; slot = refl; status = refl }
 
 pub keep-resent : {r : LockState} {rest : List Packet} {k : MachineId} {c : ClientId} {v : Site} (i : Inv r) → Still r k c v → k .0 < machines → (p q : Packet)
     → q .message ≡ p .message → q .carried ≡ p .carried → Split r (p ∷ []) rest → misfitP (r .decider .owner) q ≡ 0
@@ -235,7 +248,7 @@ unfolding tally
 keep-resent {r} {k = k} i st kk p q m x sp f v fa =
     keep-calm i
     (record {
-      frame = framed sp kk refl (st .owner);
+      frame = framed sp kk refl (st .owner) (st .quiet);
       status = st .status;
       waits = λ d n. rw (m, x, st .slot);
       holds = λ d. rw (m, x, st .slot) (omega arith);

@@ -36,11 +36,11 @@ some-listed [] e z = false≢true e
 some-listed (true ∷ hs) e z = omega arith
 some-listed (false ∷ hs) e z = some-listed hs e (omega arith)
 
-module _ (r : LockState) (i : Inv r) (k : MachineId) (kk : k .0 < machines) (a : Agent) (es : slotAt r (k .0) ≡ someAgent a) (c : ClientId)
+module _ (pref : ℕ) (r : LockState) (i : Inv r) (k : MachineId) (kk : k .0 < machines) (a : Agent) (es : slotAt r (k .0) ≡ someAgent a) (c : ClientId)
     (cl : c .0 < clients) (li : listed a c ≡ true) (st : Status) (gone rest : List Packet) (le : Leaver r c st gone rest) where
   -- the site, with that status
   abbrev site : Site
-  site = withSlot (withStatus (siteOf r k c) st) (someAgent a)
+  site = withSlot (withStatus (siteOf pref r k c) st) (someAgent a)
 
   abbrev hs : List Bool
   hs = without a c
@@ -61,7 +61,7 @@ module _ (r : LockState) (i : Inv r) (k : MachineId) (kk : k .0 < machines) (a :
   keep-left new qs w l z h n ma f g fa v =
       keep i
       (record {
-        frame = framed (le .split) kk es refl;
+        frame = framed (le .split) kk es refl refl;
         waits = λ d m. omega (arith, w d m, le .waits d m);
         holds = λ d. omega (arith, l d, z d, le .lists d, le .holds d, list-off (a .holders) (c .0) d hl li);
         rels = λ d. omega (arith, z d, le .rels d);

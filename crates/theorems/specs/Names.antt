@@ -11,6 +11,7 @@ pub use Rattle.model.specs.declared.{Call.Call, Call.the-variants.{Acquire as A
 pub use Rattle.model.specs.declared.{Refusal.Refusal}
 pub use Rattle.model.specs.declared.{Refusal.the-variants.{Malformed, LockRange, MachineRange, TaskRange, ModeRange, NotIdle, StillNamed, NotHolding}}
 pub use Rattle.model.specs.declared.{Refusal.the-variants.{IndexRange, CannotPlace, WireFull, BadRecord, TranscriptLength, NotQuiescent, NotWaiting}}
+pub use Rattle.model.specs.declared.{Refusal.the-variants.{PreferenceRange}}
 pub use Rattle.model.specs.declared.{Answer.Answer, Answer.the-variants.{Accepted, Refused}}
 pub use Rattle.model.specs.declared.{Reason.Reason, Reason.the-variants.{Requested, Granted, Rejected, Queued, Carried}}
 pub use Rattle.model.specs.declared.{ReasonAnswer.ReasonAnswer, ReasonAnswer.the-variants.{Because, Refused as NoReason}}
@@ -31,15 +32,15 @@ pub use borrow.Author.Tests.{eqb-true, eqb-false, eq-eqb, ne-eqb, ltb-true, ltb-
 pub use Rattle.model.specs.Lists.{pick, any, all}
 unfoldable pub use Rattle.model.specs.Lists.{count, isAt, indices, removed}
 pub use Rattle.model.specs.States.{locks, machines, tasks, clients, queueCapacity, wireCapacity, clientOf, machineOf, modeOf, isShared, noHolders, newAgent}
-pub use Rattle.model.specs.States.{someAgent, agentOn, listed, idle, statusOf, plain, carrying, resent, unowned, lockIn}
-unfoldable pub use Rattle.model.specs.States.{queueOf, waiters, noAgent, blankPacket, wireOf, packets, freshLock, fresh}
+pub use Rattle.model.specs.States.{someAgent, agentOn, listed, idle, statusOf, plain, carrying, resent, unowned, lockIn, preferences, prefersWriters}
+unfoldable pub use Rattle.model.specs.States.{queueOf, waiters, noAgent, blankPacket, wireOf, packets, freshLock, freshWith}
 pub use Rattle.model.specs.WellFormed.{isClient, isFree}
 unfoldable pub use Rattle.model.specs.WellFormed.{lockFormed, wellFormed}
 pub use Rattle.model.specs.Changes.{siteOf, withDecider, withSlot, withStatus, Verdict, cannot-place, does, apply, accepted}
 unfoldable pub use Rattle.model.specs.Changes.{finish}
-pub use Rattle.model.specs.Asking.{changed, joining, queuing, noRoom, withRoom, anyHolder, without, departing, leaves, lists}
+pub use Rattle.model.specs.Asking.{changed, joining, queuing, noRoom, withRoom, anyHolder, without, departing, leaves, lists, writerIn}
 unfoldable pub use Rattle.model.specs.Asking.{mayJoin, clientAsks, clientAcquires, handOver, staysIf, clientReleases}
-pub use Rattle.model.specs.AtDecider.{next, ownedShared, grantsFirst, shares, current, rejects, passesOn}
+pub use Rattle.model.specs.AtDecider.{next, ownedShared, grantsFirst, shares, noting, current, rejects, passesOn}
 unfoldable pub use Rattle.model.specs.AtDecider.{mayShare, toOwner, decidesAcquire, decidesFree, decidesGrant, decides, atDecider}
 pub use Rattle.model.specs.AtMachine.{sentBack, sendsBack, grantOf, installed, requeued}
 unfoldable pub use Rattle.model.specs.AtMachine.{admitted, staying, joined, installs, grantArrives, rejectedGrantArrives, marked, unmarked, acquireArrives}
@@ -47,7 +48,7 @@ unfoldable pub use Rattle.model.specs.AtMachine.{releaseArrives, freeArrives, a
 pub use Rattle.model.specs.Calls.{refusing, isHolding, messageNames, names, machineAt, clientNamed, packetAt, answersOf, after, lockOf}
 pub use Rattle.model.specs.Calls.{handlingsOf, latest}
 unfoldable pub use Rattle.model.specs.Calls.{delivers, acquireStep, releaseStep, takes, deliverStep, settled, unless, acquire, release, deliver, perform, run}
-unfoldable pub use Rattle.model.specs.Calls.{handledAt, lastTold}
+unfoldable pub use Rattle.model.specs.Calls.{handledAt, lastTold, fresh}
 pub use Rattle.model.specs.Refusals.{refusalNumber, number}
 pub use Rattle.model.specs.Counts.{agentsIn, isMarked, marksIn, uncounted}
 pub use Rattle.model.specs.Trace.{View, unseen, isAccepted, toMachine, isGrantFor, showsGrant, afterAcquire}

@@ -7,7 +7,7 @@ use Rattle.theorems.specs.Names.{LockState, _≡_, refl, Bool, true, fal
 use Rattle.theorems.specs.Names.{noAgent, wireOf, packets, freshLock, lockFormed, and-left, and-right, bool-cases, machines, clients}
 use Rattle.theorems.specs.Tally.{flag, tally, tally-none}
 use Rattle.theorems.specs.Weights.{statusAt, weight, queuedS, waitingP, listedS, listedP, owedP, agentS, agentP, markP, rejectedP, heads, vacantS, waitF}
-use Rattle.theorems.specs.Weights.{holdF, ownedF}
+use Rattle.theorems.specs.Weights.{holdF, ownedF, waitedF}
 use Rattle.theorems.specs.Invariant.{Inv}
 use Rattle.theorems.specs.Facts.{absent, nobody, absent-of, free-inc}
 
@@ -56,7 +56,12 @@ unfolding ownedF
 unowned-is Unowned e = refl
 unowned-is (Owned m k) e = absurd (omega arith)
 
-module _ (r : LockState) (i : Inv r) (f : lockFormed r ≡ true) (empty : packets (r .wire) ≡ []) (nobody : (d : ℕ) → holdF (statusAt r d) ≡ 0) where
+unflagged : (b : Bool) → flag b ≡ 0 → b ≡ false
+unflagged true e = absurd (omega arith)
+unflagged false e = refl
+
+module _ (pref : ℕ) (r : LockState) (i : Inv r) (f : lockFormed pref r ≡ true) (empty : packets (r .wire) ≡ [])
+    (nobody : (d : ℕ) → holdF (statusAt r d) ≡ 0) where
   -- with no packets a weight is that of the agents
   only-slots : (g : Packet → ℕ) (h : AgentSlot → ℕ) → weight g h r ≡ tally h (r .agents)
   unfolding weight tally
@@ -88,6 +93,10 @@ module _ (r : LockState) (i : Inv r) (f : lockFormed r ≡ true) (empty : packet
   wire : r .wire ≡ wireOf []
   wire = rw empty at (wire-whole (r .wire) (wire-canonical (r .wire) (parts r f .wire)))
 
+  no-writer : r .decider .writer ≡ false
+  unfolding waitedF
+  no-writer = unflagged (r .decider .writer) (rw owner at (i .quiet))
+
   pub is-fresh : r ≡ freshLock
   unfolding freshLock
-  is-fresh = rw (owner, free-inc r i owner, agents, statuses, wire)
+  is-fresh = rw (owner, free-inc r i owner, no-writer, agents, statuses, wire)

@@ -13,7 +13,7 @@ use Rattle.theorems.specs.Names.{bool-cases, packets-of, waiters-of, cli
 use Rattle.theorems.specs.Tally.{flag, tally, tally-one, tally-set, tally-length}
 use Rattle.theorems.specs.Weights.{statusAt, slotAt, heads, holdF, ownedAt}
 use Rattle.theorems.specs.Invariant.{Inv}
-use Rattle.theorems.specs.InvariantStep.{Split, Still, still}
+use Rattle.theorems.specs.InvariantStep.{Split, Still, still, noted}
 use Rattle.theorems.specs.Facts.{Request, acquire-of, release-of, rejected-carries-one, wire-bound}
 use Rattle.theorems.specs.Sent.{Good}
 use Rattle.theorems.specs.Waiters.{parted, grants-count}
@@ -128,9 +128,9 @@ module _ (r : LockState) (rest : List Packet) where
   lowered {k} {c} {p} {v} {qs} sp h = lowers (omega (arith, work-after r k c v (p ∷ []) qs rest sp, tally-one workP p))
 
   -- ---- at the decider: a step about machine j and client u, for the packet p
-  module _ (j : MachineId) (u : ClientId) (p : Packet) where
+  module _ (pref : ℕ) (j : MachineId) (u : ClientId) (p : Packet) where
     abbrev site : Site
-    site = siteOf r j u
+    site = siteOf pref r j u
 
     -- p with this message; the Bool: it carries an agent
     abbrev came : Message → Bool → Packet
@@ -151,7 +151,7 @@ module _ (r : LockState) (rest : List Packet) where
     moves-decides (Acquire c n false) (Owned m k) x e sp =
         let grant = work-plain (Grant c Shared) (ToMachine (machineOf c)) in
         says-by _ (mayShare site n) _ _ (lowered sp (omega (arith, work-plain (Acquire c Shared true) (ToMachine k))))
-        (sent-on (still refl) x m k acquire-of e)
+        (sent-on (noted n e) x m k acquire-of e)
     moves-decides (Release c) Unowned x e sp = tt
     moves-decides (Release c) (Owned m k) x e sp = sent-on (still refl) x m k release-of e
     moves-decides (Grant c n) w false e sp = passes _ (still refl) refl refl (λ h. omega arith)
@@ -163,10 +163,10 @@ module _ (r : LockState) (rest : List Packet) where
         says-by _ (current (r .decider) (came Free x)) _ _ (lowered sp (omega arith)) (lowered sp (omega arith))
 
   -- ---- at machine k, for the packet p
-  module _ (k : MachineId) (p : Packet) where
+  module _ (pref : ℕ) (k : MachineId) (p : Packet) where
     -- the site whose slot is x
     abbrev seen : AgentSlot → ClientId → Site
-    seen x c = withSlot (siteOf r k c) x
+    seen x c = withSlot (siteOf pref r k c) x
 
     -- p with this message; the Bools: rejected, it carries an agent
     abbrev arrived : Message → Bool → Bool → Packet
@@ -240,7 +240,7 @@ module _ (r : LockState) (rest : List Packet) where
 
     -- what is rejected carries an agent
     moves-arrives : (m : Message) (b x : Bool) → (x ≡ false → b ≡ true → ⊥)
-        → Moved k (clientNamed m) (arrived m b x) (arrives m (siteOf r k (clientNamed m)) (arrived m b x))
+        → Moved k (clientNamed m) (arrived m b x) (arrives m (siteOf pref r k (clientNamed m)) (arrived m b x))
     unfolding arrives
     moves-arrives (Acquire c n g) b x e sp = moves-acquire-arrives (agentOn r k .present) (agentOn r k .agent) c n g b x refl sp
     moves-arrives (Grant c n) false x e sp = moves-grant-arrives (agentOn r k .present) (agentOn r k .agent) c n x refl sp
@@ -249,16 +249,16 @@ module _ (r : LockState) (rest : List Packet) where
     moves-arrives (Release c) b x e sp = moves-release-arrives (agentOn r k) c b x refl sp
     moves-arrives Free b x e sp = moves-free-arrives (agentOn r k .present) (agentOn r k .agent) _ b x refl sp
 
-  moves-delivers : (p : Packet) (t : Address) → (p .carried .present ≡ false → p .rejected ≡ true → ⊥)
-      → Moved (machineAt t) (clientNamed (p .message)) (resent p t (p .rejected)) (verdict r (resent p t (p .rejected)))
+  moves-delivers : (pref : ℕ) (p : Packet) (t : Address) → (p .carried .present ≡ false → p .rejected ≡ true → ⊥)
+      → Moved (machineAt t) (clientNamed (p .message)) (resent p t (p .rejected)) (verdict pref r (resent p t (p .rejected)))
   unfolding delivers atDecider atMachine
-  moves-delivers p ToDecider e sp = moves-decides _ (clientNamed (p .message)) p (p .message) (r .decider .owner) (p .carried .present) refl sp
-  moves-delivers p (ToMachine k) e sp = moves-arrives k p (p .message) (p .rejected) (p .carried .present) e sp
+  moves-delivers pref p ToDecider e sp = moves-decides pref _ (clientNamed (p .message)) p (p .message) (r .decider .owner) (p .carried .present) refl sp
+  moves-delivers pref p (ToMachine k) e sp = moves-arrives pref k p (p .message) (p .rejected) (p .carried .present) e sp
 
 -- ---- a client that holds releases
 module _ (r : LockState) (c : ClientId) (n : Mode) (h : statusOf r c ≡ Holding n) where
-  abbrev home : Site
-  home = siteOf r (machineOf c) c
+  abbrev home : ℕ → Site
+  home pref = siteOf pref r (machineOf c) c
 
   Less : Site → List Packet → Type 0
   Less v qs = work (apply (machineOf c) c v qs (packets (r .wire)) r) < work r
@@ -272,14 +272,14 @@ module _ (r : LockState) (c : ClientId) (n : Mode) (h : statusOf r c ≡ Holding
       let idle : 2 * holdF (v .status) ≡ 0 = rw e in
       omega (arith, own, idle, w, rw es at (work-after r (machineOf c) c v [] qs (packets (r .wire)) (split-none r)))
 
-  release-lowers : Says Less (clientReleases home c)
+  release-lowers : (pref : ℕ) → Says Less (clientReleases (home pref) c)
   unfolding clientReleases tally
-  release-lowers =
+  release-lowers pref =
       let x : AgentSlot = agentOn r (machineOf c) in
       let one : workP (plain (Release c) ToDecider) ≡ 1 = work-plain (Release c) ToDecider ∙ unfold workM in refl in
       bool-cases (lists x c)
       (λ q. rw q
-      (left-says _ (withStatus home Idle) (x .agent) c (and-right (x .present) _ q)
+      (left-says _ (withStatus (home pref) Idle) (x .agent) c (and-right (x .present) _ q)
       (λ w qs e l. less _ w qs (some-agent-is _ (and-left (x .present) _ q)) e (omega (arith, l)))))
       (λ q. rw q (less _ _ (plain (Release c) ToDecider ∷ []) refl refl (omega (arith, one))))
 
@@ -309,21 +309,23 @@ sent-on-falls r p q ps i e w h k c v st =
     let less : least (hopsOf r) (ps ++ q ∷ []) < leastOf r = rw e (least-falls (hopsOf r) p q ps t h (omega (arith, ap length e)) (rw e at far)) in
     omega (arith, far, same, less, ap workS (st .slot), ap holdF (st .status), work-after r k c v (p ∷ []) (q ∷ []) ps sp, w)
 
-pub deliver-falls : (r : LockState) → Inv r → (p : Packet) (ps : List Packet) → packets (r .wire) ≡ p ∷ ps → rank (deliverStep r 0 .state) < rank r
+pub deliver-falls : (pref : ℕ) (r : LockState) → Inv r → (p : Packet) (ps : List Packet) → packets (r .wire) ≡ p ∷ ps
+    → rank (deliverStep pref r 0 .state) < rank r
 unfolding deliverStep takes removed tally
-deliver-falls r i p ps e =
+deliver-falls pref r i p ps e =
     let sp : Split r (p ∷ []) ps = record { parts = λ f. rw e (omega arith) } in
-    let good : Good r (machineAt (p .to)) (clientNamed (p .message)) ps (verdict r p) = rw e at (good-deliver r i 0 (rw e (omega arith))) in
+    let good : Good r (machineAt (p .to)) (clientNamed (p .message)) ps (verdict pref r p) = rw e at (good-deliver pref r i 0 (rw e (omega arith))) in
     rw e
-    (after-step _ _ (Moves r (machineAt (p .to)) (clientNamed (p .message)) p ps) (λ s. rank s < rank r) (verdict r p) ps r good
-    (moves-delivers r ps p (p .to) (rejected-carries-one r i ps p sp) sp) (by-move (machineAt (p .to)) (clientNamed (p .message))))
+    (after-step _ _ (Moves r (machineAt (p .to)) (clientNamed (p .message)) p ps) (λ s. rank s < rank r) (verdict pref r p) ps r good
+    (moves-delivers r ps pref p (p .to) (rejected-carries-one r i ps p sp) sp) (by-move (machineAt (p .to)) (clientNamed (p .message))))
   where
     by-move : (k : MachineId) (c : ClientId) (v : Site) (qs : List Packet) → Moves r k c p ps v qs → rank (apply k c v qs ps r) < rank r
     by-move k c v qs (lowers h) = less-work (apply k c v qs ps r) r h
     by-move k c v qs (passes q st g w h) = rw g (sent-on-falls r p q ps i e w h k c v st)
 
-pub release-falls : (r : LockState) → Inv r → (c : ClientId) (n : Mode) → c .0 < clients → statusOf r c ≡ Holding n → rank (releaseStep r c .state) < rank r
+pub release-falls : (pref : ℕ) (r : LockState) → Inv r → (c : ClientId) (n : Mode) → c .0 < clients → statusOf r c ≡ Holding n
+    → rank (releaseStep pref r c .state) < rank r
 unfolding releaseStep Less
-release-falls r i c n h e =
-    after-step _ _ (Less r c n e) (λ s. rank s < rank r) _ (packets (r .wire)) r (good-client-releases r i c h n e) (release-lowers r c n e)
+release-falls pref r i c n h e =
+    after-step _ _ (Less r c n e) (λ s. rank s < rank r) _ (packets (r .wire)) r (good-client-releases pref r i c h n e) (release-lowers r c n e pref)
     (λ v qs l. less-work (apply (machineOf c) c v qs (packets (r .wire)) r) r l)

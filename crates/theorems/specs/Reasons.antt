@@ -155,10 +155,10 @@ explained s c m i w =
     }
 
 -- after a list, in range: the tests are passed
-asked : (cs : List Call) (l : LockId) (k : MachineId) (t : TaskId) → l .0 < locks → k .0 < machines → t .0 < tasks
-    → reason (after cs) l k t ≡ reasonIn (lockIn (after cs) l) (clientOf k t)
+asked : (n : ℕ) (cs : List Call) (l : LockId) (k : MachineId) (t : TaskId) → l .0 < locks → k .0 < machines → t .0 < tasks
+    → reason (after n cs) l k t ≡ reasonIn (lockIn (after n cs) l) (clientOf k t)
 unfolding reason reasonUnless first
-asked cs l k t lb kb tb = rw (reached cs .formed, lt-leb locks (l .0) lb, lt-leb machines (k .0) kb, lt-leb tasks (t .0) tb)
+asked n cs l k t lb kb tb = rw (reached n cs .formed, lt-leb locks (l .0) lb, lt-leb machines (k .0) kb, lt-leb tasks (t .0) tb)
 
 others-are : (s : LockState) (c : ClientId) (st : Status) → statusOf s c ≡ st → ((m : Mode) → st ≡ Waiting m → ⊥) → reasonNumber (reasonIn s c) ≡ 15
 unfolding reasonIn
@@ -166,15 +166,15 @@ others-are s c Idle e h = rw e
 others-are s c (Waiting m) e h = absurd (h m refl)
 others-are s c (Holding m) e h = rw e
 
-pub where-is : (cs : List Call) → WhereIsMyRequest cs
-where-is cs l k t lb kb tb =
-    let s : LockState = lockIn (after cs) l in
+pub where-is : (n : ℕ) (cs : List Call) → WhereIsMyRequest n cs
+where-is n cs l k t lb kb tb =
+    let s : LockState = lockIn (after n cs) l in
     let c : ClientId = clientOf k t in
-    let is = asked cs l k t lb kb tb in
-    let agrees = trace-agrees cs l c in
+    let is = asked n cs l k t lb kb tb in
+    let agrees = trace-agrees n cs l c in
     record {
-      waiting = λ m w. rw is (explained s c m (reached cs .invs l) (agrees ∙ w));
-      others = λ h. rw is (others-are s c (phaseAfter l c cs) agrees h);
+      waiting = λ m w. rw is (explained s c m (reached n cs .invs l) (agrees ∙ w));
+      others = λ h. rw is (others-are s c (phaseAfter n l c cs) agrees h);
     }
 
 -- ---- the numbers: a reason is what its values say

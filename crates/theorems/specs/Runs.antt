@@ -1,20 +1,22 @@
 -- Calls and lists of calls: each keeps the invariant of every lock, and no call is refused with 9 to 14.
-use Rattle.laws.specs.CallSteps.{stepOf, Allowed, may-acquire, may-release, may-deliver, CallCases, denied, passed, call-cases, perform-here}
+use Rattle.laws.specs.Tests.{pick-by}
+use Rattle.laws.specs.CallSteps.{stepOf, stepIn, Allowed, may-acquire, may-release, may-deliver, CallCases, denied, passed, call-cases, perform-here}
 use Rattle.laws.specs.Clusters.{fresh-formed, perform-formed, perform-keeps}
 use Rattle.theorems.specs.Names.{LockId, LockState, Cluster, Call, Refusal, Accepted, Outcome, _≡_, refl, ap, _∙_, true, List, [], _∷_, ℕ, zero, suc, _≤_}
-use Rattle.theorems.specs.Names.{arith, getD, replicate, clientOf, modeOf, lockIn, freshLock, fresh, lockFormed, wellFormed, refusing, after, settled}
+use Rattle.theorems.specs.Names.{arith, getD, ltb, replicate, clientOf, modeOf, lockIn, freshLock, freshWith, fresh, preferences, lockFormed, wellFormed}
+use Rattle.theorems.specs.Names.{refusing, after, settled}
 use Rattle.theorems.specs.Names.{perform, lockOf, run, refusalNumber, number, locks}
 use Rattle.theorems.specs.Invariant.{Inv}
 use Rattle.theorems.specs.Fresh.{inv-fresh}
 use Rattle.theorems.specs.Steps.{Sound, sound-acquire, sound-release, sound-deliver}
 
-pub sound-step : (a : Call) (s : LockState) → Allowed a s → Inv s → Sound (stepOf a s)
-sound-step _ s (may-acquire {l = l} {k = k} {t = t} {m = m} kb tb n id u) i = sound-acquire s i (clientOf k t) (modeOf m) (omega arith) id u
-sound-step _ s (may-release {k = k} {t = t} kb tb n h) i = sound-release s i (clientOf k t) n (omega arith) h
-sound-step _ s (may-deliver {i = j} h) i = sound-deliver s i j h
+pub sound-step : (pref : ℕ) (a : Call) (s : LockState) → Allowed a s → Inv s → Sound (stepOf pref a s)
+sound-step pref _ s (may-acquire {l = l} {k = k} {t = t} {m = m} kb tb n id u) i = sound-acquire pref s i (clientOf k t) (modeOf m) (omega arith) id u
+sound-step pref _ s (may-release {k = k} {t = t} kb tb n h) i = sound-release pref s i (clientOf k t) n (omega arith) h
+sound-step pref _ s (may-deliver {i = j} h) i = sound-deliver pref s i j h
 
-pub step-keeps : (a : Call) (s : LockState) → Allowed a s → lockFormed s ≡ true → Inv s → Inv (stepOf a s .state)
-step-keeps a s al f i = sound-step a s al i .inv
+pub step-keeps : (pref : ℕ) (a : Call) (s : LockState) → Allowed a s → lockFormed pref s ≡ true → Inv s → Inv (stepOf pref a s .state)
+step-keeps pref a s al f i = sound-step pref a s al i .inv
 
 -- ---- a cluster that a list of calls leads to
 pub record Reached (x : Cluster) : Type 0 where
@@ -26,12 +28,12 @@ same-lock zero d = refl
 same-lock (suc n) zero = refl
 same-lock (suc n) (suc d) = same-lock n d
 
-pub lock-fresh : (l : LockId) → lockIn fresh l ≡ freshLock
-unfolding fresh
-lock-fresh l = same-lock locks (l .0)
+pub lock-fresh : (n : ℕ) (l : LockId) → lockIn (fresh n .cluster) l ≡ freshLock
+unfolding fresh freshWith
+lock-fresh n l = pick-by (λ (o : Outcome). lockIn (o .cluster) l ≡ freshLock) (ltb n preferences) (λ e. same-lock locks (l .0)) (λ e. same-lock locks (l .0))
 
-pub reached-fresh : Reached fresh
-reached-fresh = record { formed = fresh-formed; invs = λ l. rw (lock-fresh l) inv-fresh }
+pub reached-fresh : (n : ℕ) → Reached (fresh n .cluster)
+reached-fresh n = record { formed = fresh-formed n; invs = λ l. rw (lock-fresh n l) inv-fresh }
 
 pub reached-next : (a : Call) (x : Cluster) → Reached x → Reached (perform a x .cluster)
 reached-next a x h = record { formed = perform-formed a x (h .formed); invs = λ l. perform-keeps Inv step-keeps a x l (h .formed) (h .invs l) }
@@ -41,14 +43,14 @@ unfolding run
 reached-run [] x h = h
 reached-run (a ∷ cs) x h = reached-run cs (perform a x .cluster) (reached-next a x h)
 
-pub reached : (cs : List Call) → Reached (after cs)
-reached cs = reached-run cs fresh reached-fresh
+pub reached : (n : ℕ) (cs : List Call) → Reached (after n cs)
+reached n cs = reached-run cs (fresh n .cluster) (reached-fresh n)
 
 -- ---- a call on such a cluster: denied by a test, or accepted
 pub data Answered (a : Call) (x : Cluster) : Type 0 where
   denied-by : (r : Refusal) → refusalNumber r ≤ 8 → perform a x ≡ refusing r x → Answered a x
   accepted-by : Allowed a (lockIn x (lockOf a)) → perform a x .answer ≡ Accepted
-      → lockIn (perform a x .cluster) (lockOf a) ≡ stepOf a (lockIn x (lockOf a)) .state → Answered a x
+      → lockIn (perform a x .cluster) (lockOf a) ≡ stepIn a x .state → Answered a x
 
 pub answered : (a : Call) (x : Cluster) → Reached x → Answered a x
 unfolding settled
@@ -57,7 +59,8 @@ answered a x h = go (call-cases a x (h .formed))
     go : CallCases a x → Answered a x
     go (denied r m n e) = denied-by r n e
     go (passed b al e) =
-        accepted-by al (ap (λ (o : Outcome). o .answer) e ∙ rw (sound-step a _ al (h .invs (lockOf a)) .taken)) (perform-here a x (h .formed) b e)
+        accepted-by al (ap (λ (o : Outcome). o .answer) e ∙ rw (sound-step (x .preference) a _ al (h .invs (lockOf a)) .taken))
+        (perform-here a x (h .formed) b e)
 
 -- the number of each answer is at most 8
 pub number-below : (a : Call) (x : Cluster) → Reached x → number (perform a x .answer) ≤ 8

@@ -1,6 +1,6 @@
--- The scenarios of document 01 that are marked to be proved (D1 to D10), D12 as request 3 of document 02 has it, one for each of the tempting faults, and the
--- handlings of request 4: each a start state, calls on lock 0, and the numbers of the answers and the whole cluster that follow, or what is told. One list, by
--- name, and one theorem, by computation.
+-- The scenarios of document 01 that are marked to be proved (D1 to D10), D12 as request 3 of document 02 has it, one for each of the tempting faults, the
+-- handlings of request 4, and request 5's preference for writers: each a start state, calls on lock 0, and the numbers of the answers and the whole cluster
+-- that follow, or what is told. One list, by name, and one theorem, by computation.
 use mathlib.Core.Path.{_≡_, refl}
 use mathlib.Core.Bool.{Bool, true, false}
 use mathlib.Core.List.{List, [], _∷_, _++_, map}
@@ -49,7 +49,11 @@ abbrev pub lock8 : Call
 lock8 = AcquireCall (on 8) (machine 0) (record { 0 = 0 }) 1
 
 abbrev pub owned : Mode → ℕ → ℕ → Decider
-owned m k n = record { owner = Owned m (machine k); incarnation = n }
+owned m k n = record { owner = Owned m (machine k); incarnation = n; writer = false }
+
+-- the decider, which knows of a writer
+abbrev knowing : Decider → Decider
+knowing d = record { owner = d .owner; incarnation = d .incarnation; writer = true }
 
 -- the agent with this queue
 abbrev pub queue : List Waiter → Agent → Agent
@@ -82,14 +86,20 @@ others = replicate clients idle
 abbrev pub lock : Decider → List AgentSlot → List ClientState → List Packet → LockState
 lock d slots cs ps = record { decider = d; agents = slots; clients = cs; wire = wireOf ps }
 
--- lock 0 in this state, the others fresh
+-- lock 0 in this state, the others fresh, and readers are preferred
 abbrev pub with0 : LockState → Cluster
-with0 s = record { locks = s ∷ replicate 7 freshLock }
+with0 s = record { preference = 0; locks = s ∷ replicate 7 freshLock }
+
+-- or writers
+abbrev writing0 : LockState → Cluster
+writing0 s = record { preference = 1; locks = s ∷ replicate 7 freshLock }
 
 -- ---- what a scenario says
 pub data Scenario : Type 0 where
   -- from this state of lock 0: calls, the numbers of their answers, and the state after them
   from : LockState → List Call → List ℕ → LockState → Scenario
+  -- the same, where writers are preferred
+  writing : LockState → List Call → List ℕ → LockState → Scenario
   -- from this state of lock 0: the number of its drain's answer, the drain's steps, and the state after it
   drained : LockState → ℕ → ℕ → LockState → Scenario
   -- from this state of lock 0: calls, and how many grants they show to each of these clients
@@ -97,8 +107,12 @@ pub data Scenario : Type 0 where
   -- from this state of lock 0: calls, and the handlings that they tell
   told : LockState → List Call → List Handling → Scenario
 
+abbrev Leads : (LockState → Cluster) → LockState → List Call → List ℕ → LockState → Type 0
+Leads f s cs ns t = (map number (answersOf cs (f s)) ≡ ns) × (run cs (f s) ≡ f t)
+
 abbrev pub Holds : Scenario → Type 0
-Holds (from s cs ns t) = (map number (answersOf cs (with0 s)) ≡ ns) × (run cs (with0 s) ≡ with0 t)
+Holds (from s cs ns t) = Leads with0 s cs ns t
+Holds (writing s cs ns t) = Leads writing0 s cs ns t
 Holds (drained s n steps t) =
     (number (drain (with0 s) (on 0) .answer) ≡ n) × (drain (with0 s) (on 0) .count ≡ steps) × (drain (with0 s) (on 0) .cluster ≡ with0 t)
 Holds (told s cs hs) = handlingsOf cs (with0 s) ≡ hs
@@ -234,12 +248,72 @@ f-rejected = lock (owned Shared 0 1) nowhere asking (returning (Grant (client 4)
 abbrev pub f-requeued : LockState
 f-requeued = lock (owned Shared 0 1) (on0 (queue (waits 4 ∷ waits 8 ∷ []) (agent Shared [] 0))) asking []
 
+-- ---- Writers first. 0/0 holds shared, and 1/0 has asked exclusively: the decider has sent that on, and knows of it
+abbrev two : Status → Status → List ClientState → List ClientState
+two a b cs = status 4 a (status 8 b cs)
+
+abbrev asked4 : Packet
+asked4 = plain (Acquire (client 4) Exclusive false) (ToMachine (machine 0))
+
+abbrev asked8 : Packet
+asked8 = plain (Acquire (client 8) Shared false) (ToMachine (machine 0))
+
+abbrev w-noted : LockState
+w-noted = lock (knowing (owned Shared 0 0)) (on0 firstAgent) (waiting4 Exclusive holding0) (asked4 ∷ [])
+
+-- so 2/0's shared request is sent on too, unmarked,
+abbrev w-sent-on : LockState
+w-sent-on = lock (knowing (owned Shared 0 0)) (on0 firstAgent) (two (Waiting Exclusive) (Waiting Shared) holding0) (asked4 ∷ asked8 ∷ [])
+
+-- and stands behind the writer in the agent's queue, as does 0/1, who asks on the agent's own machine
+abbrev w-queued : LockState
+w-queued =
+    lock (knowing (owned Shared 0 0)) (on0 (queue (waits 4 ∷ reads 8 ∷ reads 1 ∷ []) firstAgent))
+    (status 1 (Waiting Shared) (two (Waiting Exclusive) (Waiting Shared) holding0)) []
+
+-- 0/0 releases: the writer is served, nobody behind it is one, and the decider forgets
+abbrev w-served : LockState
+w-served =
+    lock (owned Exclusive 1 0) nowhere (status 1 (Waiting Shared) (two (Waiting Exclusive) (Waiting Shared) others))
+    (carrying (Grant (client 4) Exclusive) (ToMachine (machine 1)) (queue (reads 8 ∷ reads 1 ∷ []) (agent Shared [] 0)) ∷ [])
+
+-- With readers preferred 0/1 holds at once, past a writer in the queue.
+abbrev w-waiting : LockState
+w-waiting = lock (owned Shared 0 0) (on0 (queue (waits 4 ∷ []) firstAgent)) (waiting4 Exclusive holding0) []
+
+abbrev w-passed : LockState
+w-passed = lock (owned Shared 0 0) (on0 (queue (waits 4 ∷ []) (agent Shared (1 ∷ 0 ∷ []) 0))) (status 1 (Holding Shared) (waiting4 Exclusive holding0)) []
+
+-- A reader goes ahead of a writer that waits behind it: the GRANT with the agent tells the decider of that one, which it did not know.
+abbrev w-unknown : LockState
+w-unknown =
+    settled-on 0 (queue (reads 4 ∷ waits 8 ∷ []) (agent Exclusive (0 ∷ []) 0))
+    (status 0 (Holding Exclusive) (two (Waiting Shared) (Waiting Exclusive) others))
+
+abbrev w-told : LockState
+w-told =
+    lock (knowing (owned Shared 1 0)) nowhere (two (Waiting Shared) (Waiting Exclusive) others)
+    (carrying (Grant (client 4) Shared) (ToMachine (machine 1)) (queue (waits 8 ∷ []) (agent Exclusive [] 0)) ∷ [])
+
+-- The last holder is gone and a FREE is under way, with a bit that is set: it is cleared.
+abbrev w-freeing : LockState
+w-freeing = lock (knowing (owned Shared 0 0)) nowhere others (carrying Free ToDecider (agent Shared [] 0) ∷ [])
+
+-- A marked request was granted by the decider before: it joins, past the writer in the queue.
+abbrev w-marked : LockState
+w-marked = lock (owned Shared 0 1) (on0 (queue (waits 8 ∷ []) firstAgent)) (two (Waiting Shared) (Waiting Exclusive) holding0) (grantTo1 ∷ markedTo0 ∷ [])
+
+abbrev w-joined : LockState
+w-joined =
+    lock (owned Shared 0 1) (on0 (queue (waits 8 ∷ []) (agent Shared (4 ∷ 0 ∷ []) 1))) (two (Waiting Shared) (Waiting Exclusive) holding0) (grantTo1 ∷ [])
+
 -- ---- the list, and the theorem
 pub data Name : Type 0 where
   D1 D1-arrived D1-drained D2 D3 D3-rejected D4 D5 D6 D7 D8-queued D8 D9 D9-agent D10 : Name
   D12-queued D12 D12-second D12-third D12-granted : Name
   marked-returns granted-locally unmarked-joins waiter-returns : Name
   D3-told D5-told D6-told D8-told : Name
+  writer-noted reader-sent-on reader-queued writer-served reader-passes writer-told bit-cleared marked-joins : Name
 
 abbrev pub scenarios : Name → Scenario
 scenarios D1 = from freshLock (acquires0 0 0 3 ∷ delivers0 0 ∷ []) (0 ∷ 0 ∷ []) d1
@@ -282,6 +356,15 @@ scenarios D3-told = told d3 (delivers0 1 ∷ delivers0 2 ∷ []) (NoAgent ∷ No
 scenarios D5-told = told d4 (delivers0 1 ∷ delivers0 0 ∷ []) (Taken ∷ None ∷ [])
 scenarios D6-told = told d2 (delivers0 0 ∷ releases0 1 0 ∷ delivers0 1 ∷ delivers0 1 ∷ []) (None ∷ None ∷ None ∷ NotHolder ∷ [])
 scenarios D8-told = told d1-held (acquires0 1 0 2 ∷ delivers0 0 ∷ delivers0 0 ∷ []) (None ∷ None ∷ Taken ∷ [])
+-- the preference for writers
+scenarios writer-noted = writing d1-held (acquires0 1 0 2 ∷ delivers0 0 ∷ []) (0 ∷ 0 ∷ []) w-noted
+scenarios reader-sent-on = writing w-noted (acquires0 2 0 3 ∷ delivers0 1 ∷ []) (0 ∷ 0 ∷ []) w-sent-on
+scenarios reader-queued = writing w-sent-on (delivers0 0 ∷ delivers0 0 ∷ acquires0 0 1 3 ∷ []) (replicate 3 0) w-queued
+scenarios writer-served = writing w-queued (releases0 0 0 ∷ delivers0 0 ∷ []) (0 ∷ 0 ∷ []) w-served
+scenarios reader-passes = from w-waiting (acquires0 0 1 3 ∷ []) (0 ∷ []) w-passed
+scenarios writer-told = writing w-unknown (releases0 0 0 ∷ delivers0 0 ∷ []) (0 ∷ 0 ∷ []) w-told
+scenarios bit-cleared = writing w-freeing (delivers0 0 ∷ []) (0 ∷ []) freshLock
+scenarios marked-joins = writing w-marked (delivers0 1 ∷ []) (0 ∷ []) w-joined
 
 pub scenarios-hold : (n : Name) → Holds (scenarios n)
 unfolding run perform acquire release deliver unless settled first acquireStep releaseStep deliverStep takes finish delivers
@@ -318,3 +401,11 @@ scenarios-hold D3-told = refl
 scenarios-hold D5-told = refl
 scenarios-hold D6-told = refl
 scenarios-hold D8-told = refl
+scenarios-hold writer-noted = (refl, refl)
+scenarios-hold reader-sent-on = (refl, refl)
+scenarios-hold reader-queued = (refl, refl)
+scenarios-hold writer-served = (refl, refl)
+scenarios-hold reader-passes = (refl, refl)
+scenarios-hold writer-told = (refl, refl)
+scenarios-hold bit-cleared = (refl, refl)
+scenarios-hold marked-joins = (refl, refl)

@@ -25,11 +25,15 @@ shared-is Shared e = refl
 
 pub may-share : (v : Site) (m : Mode) → mayShare v m ≡ true → (ownedShared (v .decider .owner) ≡ true) × (m ≡ Shared)
 unfolding mayShare
-may-share v m e = (and-left (ownedShared (v .decider .owner)) _ e, shared-is m (and-right (ownedShared (v .decider .owner)) _ e))
+may-share v m e =
+    let s = and-right (ownedShared (v .decider .owner)) _ e in
+    (and-left (ownedShared (v .decider .owner)) _ e, shared-is m (and-left (isShared m) _ s))
 
 pub may-join : (v : Site) (m : Mode) → mayJoin v m ≡ true → (v .slot .agent .mode ≡ Shared) × (m ≡ Shared)
 unfolding mayJoin
-may-join v m e = (shared-is _ (and-left (isShared (v .slot .agent .mode)) _ e), shared-is m (and-right (isShared (v .slot .agent .mode)) _ e))
+may-join v m e =
+    let s = and-right (isShared (v .slot .agent .mode)) _ e in
+    (shared-is _ (and-left (isShared (v .slot .agent .mode)) _ e), shared-is m (and-left (isShared m) _ s))
 
 -- ---- what fits at one address fits at another
 module _ (t t′ : Address) (b : Bool) (a : Agent) (o : Owner) where

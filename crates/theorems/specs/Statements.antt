@@ -1,5 +1,6 @@
--- What is proved, in Theorems, Drains, Listings, Counts, Reasons, FirstCome and Handlings: of the numbers of answers, and of every list of calls on a fresh
--- cluster. Past the last, a lock reads as fresh and a client as idle.
+-- What is proved, in Theorems, Drains, Listings, Counts, Reasons, FirstCome and Handlings: of the numbers of answers, and of every
+-- list of calls on a fresh cluster, made with any preference n, as given: one above 1 is refused, and the cluster beside that prefers readers. Past the last, a
+-- lock reads as fresh and a client as idle.
 use Rattle.model.specs.Drain.{allowance, Quiescent, drainCalls, drain}
 use Rattle.model.specs.Trace.{isAccepted, grantsIn}
 use Rattle.model.specs.Refusals.{first}
@@ -12,8 +13,9 @@ use Rattle.theorems.specs.Names.{current, packetAt, run, answersOf, perf
 use Rattle.theorems.specs.Names.{after, _++_, map, Packet, MachineId, Unowned, Owned, LockState, Bool, false, not, _||_, count, agentOn, ownedShared}
 use Rattle.theorems.specs.Names.{names, isFree, agentsIn, marksIn, uncounted, TaskId, Reason, ReasonAnswer, Because, machines, tasks, clientOf}
 use Rattle.theorems.specs.Names.{isTrue, reasonIn, reason, reasonNumber, reasonValues, Waiter, Agent, ToMachine, Grant, _&&_, isShared, waiters, carrying}
-use Rattle.theorems.specs.Names.{removed, grantOf, acquire, release, deliver, ToDecider, Message, Free, Acquire, Release, Handling, None, NoAgent}
-use Rattle.theorems.specs.Names.{NotHolder, Taken, sentBack, lists, handlingsOf, lastTold, wireOf}
+use Rattle.theorems.specs.Names.{removed, grantOf, acquire, release, deliver, ToDecider}
+use Rattle.theorems.specs.Names.{Message, Free, Acquire, Release, Handling, None, NoAgent, NotHolder, Taken, sentBack, lists, handlingsOf, lastTold}
+use Rattle.theorems.specs.Names.{wireOf}
 use lib.ListN.{take}
 
 -- Different answers have different numbers, and 0 is the number of the accepted alone.
@@ -22,34 +24,35 @@ pub record Numbered : Type 0 where
   pub accepts : (a : Answer) → number a ≡ 0 → a ≡ Accepted
 
 -- The cluster is well formed after the list, so refusal 11 does not occur.
-abbrev pub StaysFormed : List Call → Type 0
-StaysFormed cs = wellFormed (after cs) ≡ true
+abbrev pub StaysFormed : ℕ → List Call → Type 0
+StaysFormed n cs = wellFormed (after n cs) ≡ true
 
 -- No call of the list gets a number above 8: refusals from 9 on do not occur.
-abbrev pub NeverRefusedInside : List Call → Type 0
-NeverRefusedInside cs = all (λ (a : Answer). leb (number a) 8) (answersOf cs fresh) ≡ true
+abbrev pub NeverRefusedInside : ℕ → List Call → Type 0
+NeverRefusedInside n cs = all (λ (a : Answer). leb (number a) 8) (answersOf cs (fresh n .cluster)) ≡ true
 
 -- No wire holds more packets than it has slots.
-abbrev pub WireBounded : List Call → Type 0
-WireBounded cs = (l : LockId) → length (packets (lockIn (after cs) l .wire)) ≤ wireCapacity
+abbrev pub WireBounded : ℕ → List Call → Type 0
+WireBounded n cs = (l : LockId) → length (packets (lockIn (after n cs) l .wire)) ≤ wireCapacity
 
 -- One more call changes the state of its own lock alone.
-abbrev pub OthersUntouched : List Call → Type 0
-OthersUntouched cs = (a : Call) (l : LockId) → (l .0 ≡ lockOf a .0 → ⊥) → lockIn (perform a (after cs) .cluster) l ≡ lockIn (after cs) l
+abbrev pub OthersUntouched : ℕ → List Call → Type 0
+OthersUntouched n cs = (a : Call) (l : LockId) → (l .0 ≡ lockOf a .0 → ⊥) → lockIn (perform a (after n cs) .cluster) l ≡ lockIn (after n cs) l
 
 -- An exclusive holder is the only holder: by the statuses,
-abbrev pub Exclusion : List Call → Type 0
-Exclusion cs =
+abbrev pub Exclusion : ℕ → List Call → Type 0
+Exclusion n cs =
     (l : LockId) (c d : ClientId) (m : Mode) → (c .0 ≡ d .0 → ⊥)
-    → statusOf (lockIn (after cs) l) c ≡ Holding Exclusive → statusOf (lockIn (after cs) l) d ≡ Holding m → ⊥
+    → statusOf (lockIn (after n cs) l) c ≡ Holding Exclusive → statusOf (lockIn (after n cs) l) d ≡ Holding m → ⊥
 
 -- Every status is the phase in the trace, which goes by what the calls do.
-abbrev pub TraceAgrees : List Call → Type 0
-TraceAgrees cs = (l : LockId) (c : ClientId) → statusOf (lockIn (after cs) l) c ≡ phaseAfter l c cs
+abbrev pub TraceAgrees : ℕ → List Call → Type 0
+TraceAgrees n cs = (l : LockId) (c : ClientId) → statusOf (lockIn (after n cs) l) c ≡ phaseAfter n l c cs
 
 -- and so by the trace.
-abbrev pub ExclusionOfTrace : List Call → Type 0
-ExclusionOfTrace cs = (l : LockId) (c d : ClientId) (m : Mode) → (c .0 ≡ d .0 → ⊥) → phaseAfter l c cs ≡ Holding Exclusive → phaseAfter l d cs ≡ Holding m → ⊥
+abbrev pub ExclusionOfTrace : ℕ → List Call → Type 0
+ExclusionOfTrace n cs =
+    (l : LockId) (c d : ClientId) (m : Mode) → (c .0 ≡ d .0 → ⊥) → phaseAfter n l c cs ≡ Holding Exclusive → phaseAfter n l d cs ≡ Holding m → ⊥
 
 -- The steps that a drain takes at most, as proved: 7 for each client and 2 for the agent, and before each of these fewer than three rounds of the wire.
 abbrev pub provedBound : ℕ
@@ -73,10 +76,10 @@ pub record Drains (x : Cluster) (l : LockId) (phase : ClientId → Status) : Typ
   pub granted : (c : ClientId) (m : Mode) → phase c ≡ Waiting m → grantsIn l c (drainCalls l x) x (phase c) ≡ 1
 
 -- Demand 3: the trace gives the statuses, it shows exclusion, and each lock drains.
-pub record Demand3 (cs : List Call) : Type 0 where
-  pub trace : TraceAgrees cs
-  pub exclusion : ExclusionOfTrace cs
-  pub drains : (l : LockId) → l .0 < locks → Drains (after cs) l (λ c. phaseAfter l c cs)
+pub record Demand3 (n : ℕ) (cs : List Call) : Type 0 where
+  pub trace : TraceAgrees n cs
+  pub exclusion : ExclusionOfTrace n cs
+  pub drains : (l : LockId) → l .0 < locks → Drains (after n cs) l (λ c. phaseAfter n l c cs)
 
 -- The rows of a list of calls on x, in their order: what each call is answered, and the packets then on its lock's wire.
 abbrev pub rowsOf : List Call → Cluster → List Row
@@ -125,7 +128,7 @@ abbrev pub isPlaced : Answer → Bool
 isPlaced a = not (eqb (number a) 9 || eqb (number a) 10)
 
 -- Request 1 of document 02: thirty-three places are enough, and why. A lock's state s after a list, in counts that can be made on the screen.
-pub record Enough (cs : List Call) (l : LockId) (s : LockState) : Type 0 where
+pub record Enough (n : ℕ) (cs : List Call) (l : LockId) (s : LockState) : Type 0 where
   -- There is no agent at a free lock, and exactly one at any other.
   pub free : s .decider .owner ≡ Unowned → agentsIn s ≡ 0
   pub owned : (m : Mode) (k : MachineId) → s .decider .owner ≡ Owned m k → agentsIn s ≡ 1
@@ -140,17 +143,17 @@ pub record Enough (cs : List Call) (l : LockId) (s : LockState) : Type 0 where
   pub frees : count (λ (p : Packet). isFree (p .message)) (packets (s .wire)) ≤ 1
   pub wire : length (packets (s .wire)) ≤ wireCapacity
   -- No call of the list is answered 9 or 10, nor is a drain after it, nor a step of that drain.
-  pub calls : all isPlaced (answersOf cs fresh) ≡ true
-  pub drains : l .0 < locks → all isPlaced (drain (after cs) l .answer ∷ answersOf (drainCalls l (after cs)) (after cs)) ≡ true
+  pub calls : all isPlaced (answersOf cs (fresh n .cluster)) ≡ true
+  pub drains : l .0 < locks → all isPlaced (drain (after n cs) l .answer ∷ answersOf (drainCalls l (after n cs)) (after n cs)) ≡ true
 
-abbrev pub ThirtyThree : List Call → Type 0
-ThirtyThree cs = (l : LockId) → Enough cs l (lockIn (after cs) l)
+abbrev pub ThirtyThree : ℕ → List Call → Type 0
+ThirtyThree n cs = (l : LockId) → Enough n cs l (lockIn (after n cs) l)
 
 -- Eight bits do for an incarnation: a wire never has as many as 256 marks, so a carried agent's is the decider's exactly where it has none.
-pub record IncarnationSound (cs : List Call) : Type 0 where
-  pub bounded : (l : LockId) → marksIn (lockIn (after cs) l) ≤ clients
-  pub sound : (l : LockId) (i : ℕ) → i < length (packets (lockIn (after cs) l .wire)) → packetAt (lockIn (after cs) l) i .carried .present ≡ true
-      → current (lockIn (after cs) l .decider) (packetAt (lockIn (after cs) l) i) ≡ eqb (marksIn (lockIn (after cs) l)) 0
+pub record IncarnationSound (n : ℕ) (cs : List Call) : Type 0 where
+  pub bounded : (l : LockId) → marksIn (lockIn (after n cs) l) ≤ clients
+  pub sound : (l : LockId) (i : ℕ) → i < length (packets (lockIn (after n cs) l .wire)) → packetAt (lockIn (after n cs) l) i .carried .present ≡ true
+      → current (lockIn (after n cs) l .decider) (packetAt (lockIn (after n cs) l) i) ≡ eqb (marksIn (lockIn (after n cs) l)) 0
 
 -- Request 2 of document 02: where is my request. The answers to that question differ in number or values, and 0 is the number of a reason alone.
 pub record ReasonsNumbered : Type 0 where
@@ -171,12 +174,12 @@ pub record Explained (s : LockState) (c : ClientId) (a : ReasonAnswer) : Type 0 
   pub answered : reasonNumber a ≡ 0
 
 -- After a list that is so of every client that waits by the trace, on any lock; any other client is answered 15.
-pub record WhereIs (cs : List Call) (l : LockId) (k : MachineId) (t : TaskId) : Type 0 where
-  pub waiting : (m : Mode) → phaseAfter l (clientOf k t) cs ≡ Waiting m → Explained (lockIn (after cs) l) (clientOf k t) (reason (after cs) l k t)
-  pub others : ((m : Mode) → phaseAfter l (clientOf k t) cs ≡ Waiting m → ⊥) → reasonNumber (reason (after cs) l k t) ≡ 15
+pub record WhereIs (n : ℕ) (cs : List Call) (l : LockId) (k : MachineId) (t : TaskId) : Type 0 where
+  pub waiting : (m : Mode) → phaseAfter n l (clientOf k t) cs ≡ Waiting m → Explained (lockIn (after n cs) l) (clientOf k t) (reason (after n cs) l k t)
+  pub others : ((m : Mode) → phaseAfter n l (clientOf k t) cs ≡ Waiting m → ⊥) → reasonNumber (reason (after n cs) l k t) ≡ 15
 
-abbrev pub WhereIsMyRequest : List Call → Type 0
-WhereIsMyRequest cs = (l : LockId) (k : MachineId) (t : TaskId) → l .0 < locks → k .0 < machines → t .0 < tasks → WhereIs cs l k t
+abbrev pub WhereIsMyRequest : ℕ → List Call → Type 0
+WhereIsMyRequest n cs = (l : LockId) (k : MachineId) (t : TaskId) → l .0 < locks → k .0 < machines → t .0 < tasks → WhereIs n cs l k t
 
 -- Request 3 of document 02: first come, first served. An agent that was under way with the index i is installed on machine k, in mode m: a is the agent as it
 -- came, s and t are the lock's states before and after.

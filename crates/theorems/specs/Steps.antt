@@ -15,22 +15,23 @@ use Rattle.theorems.specs.AtMachine.{good-arrives}
 use Rattle.theorems.specs.Clients.{names-none, good-client-acquires, good-client-releases}
 
 -- what the delivery of a packet comes to
-abbrev pub verdict : LockState → Packet → Verdict
-verdict r p = delivers (p .to) (siteOf r (machineAt (p .to)) (clientNamed (p .message))) p
+abbrev pub verdict : ℕ → LockState → Packet → Verdict
+verdict pref r p = delivers (p .to) (siteOf pref r (machineAt (p .to)) (clientNamed (p .message))) p
 
-good-delivers : (r : LockState) (rest : List Packet) (i : Inv r) (p : Packet) (t : Address) → farA t ≡ 0 → Split r (resent p t (p .rejected) ∷ []) rest
-    → Good r (machineAt t) (clientNamed (p .message)) rest (verdict r (resent p t (p .rejected)))
+good-delivers : (pref : ℕ) (r : LockState) (rest : List Packet) (i : Inv r) (p : Packet) (t : Address) → farA t ≡ 0
+    → Split r (resent p t (p .rejected) ∷ []) rest
+    → Good r (machineAt t) (clientNamed (p .message)) rest (verdict pref r (resent p t (p .rejected)))
 unfolding delivers atDecider atMachine farM
-good-delivers r rest i p ToDecider e sp = good-decides r rest i _ _ (omega arith) p (p .message) (r .decider .owner) (p .carried .present) refl sp
-good-delivers r rest i p (ToMachine k) e sp =
-    good-arrives r rest i k (ltb-true (k .0) machines (fit _ e)) _ p (p .message) (agentOn r k .present) (p .rejected) (p .carried .present) refl sp
+good-delivers pref r rest i p ToDecider e sp = good-decides pref r rest i _ _ (omega arith) p (p .message) (r .decider .owner) (p .carried .present) refl sp
+good-delivers pref r rest i p (ToMachine k) e sp =
+    good-arrives pref r rest i k (ltb-true (k .0) machines (fit _ e)) _ p (p .message) (agentOn r k .present) (p .rejected) (p .carried .present) refl sp
 
 -- the packet at the index j
-pub good-deliver : (r : LockState) (i : Inv r) (j : ℕ) → j < length (packets (r .wire))
-    → Good r (machineAt (packetAt r j .to)) (clientNamed (packetAt r j .message)) (removed (packets (r .wire)) j) (verdict r (packetAt r j))
-good-deliver r i j h =
+pub good-deliver : (pref : ℕ) (r : LockState) (i : Inv r) (j : ℕ) → j < length (packets (r .wire))
+    → Good r (machineAt (packetAt r j .to)) (clientNamed (packetAt r j .message)) (removed (packets (r .wire)) j) (verdict pref r (packetAt r j))
+good-deliver pref r i j h =
     let p : Packet = packetAt r j in
-    good-delivers r (removed (packets (r .wire)) j) i p (p .to)
+    good-delivers pref r (removed (packets (r .wire)) j) i p (p .to)
     (omega (arith, i .reach, tally-at farP blankPacket (packets (r .wire)) j h)) (split-at r j p h refl)
 
 -- ---- from a good verdict to the step
@@ -65,17 +66,18 @@ module _ (k : MachineId) (c : ClientId) where
   sound cannot-place rest r g = absurd g
   sound (does v qs) rest r g = rw (room-after v qs rest r (g .inv)) (record { taken = refl; inv = g .inv })
 
-pub sound-acquire : (r : LockState) (i : Inv r) (c : ClientId) (m : Mode) → c .0 < clients → statusOf r c ≡ Idle → any (names c) (packets (r .wire)) ≡ false
-    → Sound (acquireStep r c m)
+pub sound-acquire : (pref : ℕ) (r : LockState) (i : Inv r) (c : ClientId) (m : Mode) → c .0 < clients → statusOf r c ≡ Idle
+    → any (names c) (packets (r .wire)) ≡ false
+    → Sound (acquireStep pref r c m)
 unfolding acquireStep
-sound-acquire r i c m cl id u = sound _ _ _ (packets (r .wire)) r (good-client-acquires r i c cl id (names-none c (packets (r .wire)) u) m)
+sound-acquire pref r i c m cl id u = sound _ _ _ (packets (r .wire)) r (good-client-acquires pref r i c cl id (names-none c (packets (r .wire)) u) m)
 
-pub sound-release : (r : LockState) (i : Inv r) (c : ClientId) (m : Mode) → c .0 < clients → statusOf r c ≡ Holding m → Sound (releaseStep r c)
+pub sound-release : (pref : ℕ) (r : LockState) (i : Inv r) (c : ClientId) (m : Mode) → c .0 < clients → statusOf r c ≡ Holding m → Sound (releaseStep pref r c)
 unfolding releaseStep
-sound-release r i c m cl ho = sound _ _ _ (packets (r .wire)) r (good-client-releases r i c cl m ho)
+sound-release pref r i c m cl ho = sound _ _ _ (packets (r .wire)) r (good-client-releases pref r i c cl m ho)
 
-pub sound-deliver : (r : LockState) (i : Inv r) (j : ℕ) → j < length (packets (r .wire)) → Sound (deliverStep r j)
+pub sound-deliver : (pref : ℕ) (r : LockState) (i : Inv r) (j : ℕ) → j < length (packets (r .wire)) → Sound (deliverStep pref r j)
 unfolding deliverStep takes
-sound-deliver r i j h =
-    let g = sound _ _ (verdict r (packetAt r j)) (removed (packets (r .wire)) j) r (good-deliver r i j h) in
+sound-deliver pref r i j h =
+    let g = sound _ _ (verdict pref r (packetAt r j)) (removed (packets (r .wire)) j) r (good-deliver pref r i j h) in
     record { taken = g .taken; inv = g .inv }

@@ -3,7 +3,7 @@ use Rattle.laws.specs.CallSteps.{perform-elsewhere}
 use Rattle.theorems.specs.Names.{LockState, Cluster, Call, Answer, _≡_, refl, sym, ap, _∙_, true, List, [], _∷_, ℕ, leb, le-leb, all, statusOf, lockIn}
 use Rattle.theorems.specs.Names.{fresh, answersOf, after, perform, number, unseen, both, map, getD, Accepted, Refused, Malformed, LockRange}
 use Rattle.theorems.specs.Names.{MachineRange, TaskRange, ModeRange, NotIdle, StillNamed, NotHolding, IndexRange, CannotPlace, WireFull, BadRecord}
-use Rattle.theorems.specs.Names.{TranscriptLength, NotQuiescent, NotWaiting}
+use Rattle.theorems.specs.Names.{TranscriptLength, NotQuiescent, NotWaiting, PreferenceRange}
 use Rattle.theorems.specs.Facts.{wire-bound}
 use Rattle.theorems.specs.Fresh.{all-idle}
 use Rattle.theorems.specs.Exclusion.{one-exclusive}
@@ -18,7 +18,7 @@ table =
     Accepted
     ∷ map Refused
     (LockRange ∷ MachineRange ∷ TaskRange ∷ ModeRange ∷ NotIdle ∷ StillNamed ∷ NotHolding ∷ IndexRange ∷ CannotPlace ∷ WireFull ∷ Malformed ∷ BadRecord
-    ∷ TranscriptLength ∷ NotQuiescent ∷ NotWaiting ∷ [])
+    ∷ TranscriptLength ∷ NotQuiescent ∷ NotWaiting ∷ PreferenceRange ∷ [])
 
 stands : (a : Answer) → getD table (number a) Accepted ≡ a
 stands Accepted = refl
@@ -37,6 +37,7 @@ stands (Refused BadRecord) = refl
 stands (Refused TranscriptLength) = refl
 stands (Refused NotQuiescent) = refl
 stands (Refused NotWaiting) = refl
+stands (Refused PreferenceRange) = refl
 
 numbers-apart : (a b : Answer) → number a ≡ number b → a ≡ b
 numbers-apart a b e = sym (stands a) ∙ ap (λ (n : ℕ). getD table n Accepted) e ∙ stands b
@@ -48,27 +49,28 @@ numbered = record { apart = numbers-apart; accepts = λ a e. numbers-apart a Acc
 pub proved-bound-is : provedBound ≡ 11384
 proved-bound-is = refl
 
-pub stays-formed : (cs : List Call) → StaysFormed cs
-stays-formed cs = reached cs .formed
+pub stays-formed : (n : ℕ) (cs : List Call) → StaysFormed n cs
+stays-formed n cs = reached n cs .formed
 
 answers-below : (cs : List Call) (x : Cluster) → Reached x → all (λ (a : Answer). leb (number a) 8) (answersOf cs x) ≡ true
 answers-below [] x h = refl
 answers-below (a ∷ cs) x h = both _ _ (le-leb _ 8 (number-below a x h)) (answers-below cs (perform a x .cluster) (reached-next a x h))
 
-pub never-refused-inside : (cs : List Call) → NeverRefusedInside cs
-never-refused-inside cs = answers-below cs fresh reached-fresh
+pub never-refused-inside : (n : ℕ) (cs : List Call) → NeverRefusedInside n cs
+never-refused-inside n cs = answers-below cs (fresh n .cluster) (reached-fresh n)
 
-pub wire-bounded : (cs : List Call) → WireBounded cs
-wire-bounded cs l = wire-bound (lockIn (after cs) l) (reached cs .invs l)
+pub wire-bounded : (n : ℕ) (cs : List Call) → WireBounded n cs
+wire-bounded n cs l = wire-bound (lockIn (after n cs) l) (reached n cs .invs l)
 
-pub others-untouched : (cs : List Call) → OthersUntouched cs
-others-untouched cs a l n = perform-elsewhere a (after cs) l n
+pub others-untouched : (n : ℕ) (cs : List Call) → OthersUntouched n cs
+others-untouched n cs a l other = perform-elsewhere a (after n cs) l other
 
-pub exclusion : (cs : List Call) → Exclusion cs
-exclusion cs l c d m n hc hd = one-exclusive (lockIn (after cs) l) (reached cs .invs l) (c .0) (d .0) m n hc hd
+pub exclusion : (n : ℕ) (cs : List Call) → Exclusion n cs
+exclusion n cs l c d m other hc hd = one-exclusive (lockIn (after n cs) l) (reached n cs .invs l) (c .0) (d .0) m other hc hd
 
-pub trace-agrees : (cs : List Call) → TraceAgrees cs
-trace-agrees cs l c = sym (agrees cs l c fresh unseen reached-fresh (sym (ap (λ (s : LockState). statusOf s c) (lock-fresh l) ∙ all-idle (c .0))))
+pub trace-agrees : (n : ℕ) (cs : List Call) → TraceAgrees n cs
+trace-agrees n cs l c =
+    sym (agrees cs l c (fresh n .cluster) unseen (reached-fresh n) (sym (ap (λ (s : LockState). statusOf s c) (lock-fresh n l) ∙ all-idle (c .0))))
 
-pub exclusion-of-trace : (cs : List Call) → ExclusionOfTrace cs
-exclusion-of-trace cs l c d m n hc hd = exclusion cs l c d m n (trace-agrees cs l c ∙ hc) (trace-agrees cs l d ∙ hd)
+pub exclusion-of-trace : (n : ℕ) (cs : List Call) → ExclusionOfTrace n cs
+exclusion-of-trace n cs l c d m other hc hd = exclusion n cs l c d m other (trace-agrees n cs l c ∙ hc) (trace-agrees n cs l d ∙ hd)

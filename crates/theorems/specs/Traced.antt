@@ -41,7 +41,7 @@ finish-other k c (does v qs) rest s d n = go (leb (length rest + length qs) wire
     go false = refl
 
 -- ---- acquire
-module _ (s : LockState) (i : Inv s) (c : ClientId) (cl : c .0 < clients) (id : statusOf s c ≡ Idle) (un : any (names c) (packets (s .wire)) ≡ false)
+module _ (pref : ℕ) (s : LockState) (i : Inv s) (c : ClientId) (cl : c .0 < clients) (id : statusOf s c ≡ Idle) (un : any (names c) (packets (s .wire)) ≡ false)
     (m : Mode) where
   abbrev ps : List Packet
   ps = packets (s .wire)
@@ -54,10 +54,10 @@ module _ (s : LockState) (i : Inv s) (c : ClientId) (cl : c .0 < clients) (id : 
   Now v t = afterAcquire m (lists-home t && not (lists-home s)) v .phase ≡ statusOf t c
 
   abbrev site : Site
-  site = siteOf s (machineOf c) c
+  site = siteOf pref s (machineOf c) c
 
   good : Good s (machineOf c) c ps (clientAcquires site c m)
-  good = good-client-acquires s i c cl id (names-none c ps un) m
+  good = good-client-acquires pref s i c cl id (names-none c ps un) m
 
   -- the state after the site's change
   abbrev then : Site → List Packet → LockState
@@ -76,7 +76,7 @@ module _ (s : LockState) (i : Inv s) (c : ClientId) (cl : c .0 < clients) (id : 
   not-listed =
       let x : AgentSlot = agentOn s (machineOf c) in
       let here = in-slot s (listedP (c .0)) (listedS (c .0)) (machineOf c .0) x i (omega arith) refl in
-      let none = unlisted s i c cl id (names-none c ps un) in
+      let none = unlisted pref s i c cl id (names-none c ps un) in
       bool-cases (x .present) (λ q. rw q (flag-none (listed (x .agent) c) (omega (arith, rw q at here)))) (λ q. rw q refl)
 
   -- the machine gets the slot x
@@ -104,13 +104,14 @@ module _ (s : LockState) (i : Inv s) (c : ClientId) (cl : c .0 < clients) (id : 
           says-by _ (mayJoin site m) _ _ (joined-now v h e)
           (says-by _ (noRoom h c) cannot-place _ tt (waits-now v (someAgent (queuing h c m)) [] (sym (ap (λ (x : AgentSlot). lists x c) e))))
 
-  pub acquired-now : (v : View) → Now v (acquireStep s c m .state)
+  pub acquired-now : (v : View) → Now v (acquireStep pref s c m .state)
   unfolding acquireStep
   acquired-now v = after-step (machineOf c) c (λ w qs. Now v (then w qs)) (Now v) (clientAcquires site c m) ps s good (acquire-now v) (λ w qs p. p)
 
-pub acquired-other : (s : LockState) (c : ClientId) (m : Mode) (d : ClientId) → (d .0 ≡ c .0 → ⊥) → statusOf (acquireStep s c m .state) d ≡ statusOf s d
+pub acquired-other : (pref : ℕ) (s : LockState) (c : ClientId) (m : Mode) (d : ClientId) → (d .0 ≡ c .0 → ⊥)
+    → statusOf (acquireStep pref s c m .state) d ≡ statusOf s d
 unfolding acquireStep
-acquired-other s c m d n = finish-other _ c _ _ s d n
+acquired-other pref s c m d n = finish-other _ c _ _ s d n
 
 -- ---- release: an agent that leaves or stays writes no status
 left-quiet : (v : Site) (a : Agent) (c : ClientId) → Says (λ w qs. w .status ≡ v .status) (leaves v a c)
@@ -121,16 +122,16 @@ release-idle : (v : Site) (c : ClientId) → Says (λ w qs. w .status ≡ Idle) 
 unfolding clientReleases
 release-idle v c = says-by _ (lists (v .slot) c) _ _ (left-quiet (withStatus v Idle) (v .slot .agent) c) refl
 
-pub released-now : (s : LockState) (i : Inv s) (c : ClientId) (cl : c .0 < clients) (m : Mode) → statusOf s c ≡ Holding m
-    → statusOf (releaseStep s c .state) c ≡ Idle
+pub released-now : (pref : ℕ) (s : LockState) (i : Inv s) (c : ClientId) (cl : c .0 < clients) (m : Mode) → statusOf s c ≡ Holding m
+    → statusOf (releaseStep pref s c .state) c ≡ Idle
 unfolding releaseStep
-released-now s i c cl m ho =
-    after-step (machineOf c) c (λ w qs. w .status ≡ Idle) (λ t. statusOf t c ≡ Idle) _ (packets (s .wire)) s (good-client-releases s i c cl m ho)
+released-now pref s i c cl m ho =
+    after-step (machineOf c) c (λ w qs. w .status ≡ Idle) (λ t. statusOf t c ≡ Idle) _ (packets (s .wire)) s (good-client-releases pref s i c cl m ho)
     (release-idle _ c) (λ w qs p. told-self s c (w .status) (i .all-clients) cl ∙ p)
 
-pub released-other : (s : LockState) (c : ClientId) (d : ClientId) → (d .0 ≡ c .0 → ⊥) → statusOf (releaseStep s c .state) d ≡ statusOf s d
+pub released-other : (pref : ℕ) (s : LockState) (c : ClientId) (d : ClientId) → (d .0 ≡ c .0 → ⊥) → statusOf (releaseStep pref s c .state) d ≡ statusOf s d
 unfolding releaseStep
-released-other s c d n = finish-other _ c _ _ s d n
+released-other pref s c d n = finish-other _ c _ _ s d n
 
 -- ---- deliver: only a GRANT that is not rejected, at a machine, writes a status
 abbrev Tells : Address → Message → Bool → Site → Site → List Packet → Type 0
@@ -206,14 +207,14 @@ module _ (s : LockState) (i : Inv s) (rest : List Packet) (c : ClientId) where
   quiet-seen v e d st q = e ∙ sym (rw q (untold s d (c .0)))
 
   tells-seen : (p : Packet) (t : Address) (m : Message) (b : Bool) (v : View) → v .phase ≡ statusOf s c
-      → Split s (inParts m t b (p .carried .present) p ∷ []) rest → (k : MachineId) (w : Site) (qs : List Packet)
-      → Tells t m b (siteOf s k (clientNamed m)) w qs → Seen t m b v (told s (clientNamed m) (w .status) (c .0))
-  tells-seen p ToDecider m b v e sp k w qs z = quiet-seen v e (clientNamed m) (w .status) z
-  tells-seen p (ToMachine j) (Acquire d n g) b v e sp k w qs z = quiet-seen v e d (w .status) z
-  tells-seen p (ToMachine j) (Release d) b v e sp k w qs z = quiet-seen v e d (w .status) z
-  tells-seen p (ToMachine j) Free b v e sp k w qs z = quiet-seen v e _ (w .status) z
-  tells-seen p (ToMachine j) (Grant d n) true v e sp k w qs z = rw (and-false) (quiet-seen v e d (w .status) z)
-  tells-seen p (ToMachine j) (Grant d n) false v e sp k w qs z = go (ℕ-discrete (c .0) (d .0))
+      → Split s (inParts m t b (p .carried .present) p ∷ []) rest → (pref : ℕ) (k : MachineId) (w : Site) (qs : List Packet)
+      → Tells t m b (siteOf pref s k (clientNamed m)) w qs → Seen t m b v (told s (clientNamed m) (w .status) (c .0))
+  tells-seen p ToDecider m b v e sp pref k w qs z = quiet-seen v e (clientNamed m) (w .status) z
+  tells-seen p (ToMachine j) (Acquire d n g) b v e sp pref k w qs z = quiet-seen v e d (w .status) z
+  tells-seen p (ToMachine j) (Release d) b v e sp pref k w qs z = quiet-seen v e d (w .status) z
+  tells-seen p (ToMachine j) Free b v e sp pref k w qs z = quiet-seen v e _ (w .status) z
+  tells-seen p (ToMachine j) (Grant d n) true v e sp pref k w qs z = rw (and-false) (quiet-seen v e d (w .status) z)
+  tells-seen p (ToMachine j) (Grant d n) false v e sp pref k w qs z = go (ℕ-discrete (c .0) (d .0))
     where
       db : d .0 < clients
       db = waiter-below s (d .0) n i (unfold weight tally askM in omega (arith, sp .parts (waitingP (d .0) n), hit-self d n))
@@ -224,40 +225,40 @@ module _ (s : LockState) (i : Inv s) (rest : List Packet) (c : ClientId) where
           rw (eq-eqb (c .0) (d .0) q, y) (sym (ap (λ (n : ℕ). told s d (w .status) n) q ∙ told-self s d (w .status) (i .all-clients) db ∙ z))
       go (no q) = rw (ne-eqb (c .0) (d .0) q) (e ∙ sym (told-other s d (w .status) c q))
 
-pub delivered-now : (s : LockState) (i : Inv s) (j : ℕ) → j < length (packets (s .wire)) → (c : ClientId) (v : View) → v .phase ≡ statusOf s c
-    → pick (showsGrant c (packetAt s j)) (afterGrant v) v .phase ≡ statusOf (deliverStep s j .state) c
+pub delivered-now : (pref : ℕ) (s : LockState) (i : Inv s) (j : ℕ) → j < length (packets (s .wire)) → (c : ClientId) (v : View) → v .phase ≡ statusOf s c
+    → pick (showsGrant c (packetAt s j)) (afterGrant v) v .phase ≡ statusOf (deliverStep pref s j .state) c
 unfolding deliverStep takes
-delivered-now s i j h c v e =
+delivered-now pref s i j h c v e =
     let p : Packet = packetAt s j in
     let rest : List Packet = removed (packets (s .wire)) j in
     let sp : Split s (p ∷ []) rest = split-at s j p h refl in
-    after-step _ _ (Tells (p .to) (p .message) (p .rejected) (siteOf s (machineAt (p .to)) (clientNamed (p .message))))
-    (λ u. Seen s i rest c (p .to) (p .message) (p .rejected) v (statusOf u c)) (verdict s p) rest s (good-deliver s i j h)
+    after-step _ _ (Tells (p .to) (p .message) (p .rejected) (siteOf pref s (machineAt (p .to)) (clientNamed (p .message))))
+    (λ u. Seen s i rest c (p .to) (p .message) (p .rejected) v (statusOf u c)) (verdict pref s p) rest s (good-deliver pref s i j h)
     (delivers-tells _ p (p .to) (p .message) (p .rejected) (p .carried .present))
-    (tells-seen s i rest c p (p .to) (p .message) (p .rejected) v e sp (machineAt (p .to)))
+    (tells-seen s i rest c p (p .to) (p .message) (p .rejected) v e sp pref (machineAt (p .to)))
 
 -- ---- one call, on its own lock
 abbrev client-of : ℕ → ClientId
 client-of n = record { 0 = n }
 
-own : (a : Call) (s : LockState) (x y : Cluster) (c : ClientId) (v : View) → Allowed a s → Inv s → lockIn x (lockOf a) ≡ s
-    → lockIn y (lockOf a) ≡ stepOf a s .state → v .phase ≡ statusOf s c → sees (lockOf a) c a x y v .phase ≡ statusOf (lockIn y (lockOf a)) c
+own : (pref : ℕ) (a : Call) (s : LockState) (x y : Cluster) (c : ClientId) (v : View) → Allowed a s → Inv s → lockIn x (lockOf a) ≡ s
+    → lockIn y (lockOf a) ≡ stepOf pref a s .state → v .phase ≡ statusOf s c → sees (lockOf a) c a x y v .phase ≡ statusOf (lockIn y (lockOf a)) c
 unfolding sees
-own _ s x y c v (may-acquire {l = l} {k = k} {t = t} {m = m} kb tb n id un) i ex ey e = go (ℕ-discrete (c .0) (clientOf k t .0))
+own pref _ s x y c v (may-acquire {l = l} {k = k} {t = t} {m = m} kb tb n id un) i ex ey e = go (ℕ-discrete (c .0) (clientOf k t .0))
   where
     go : Dec (c .0 ≡ clientOf k t .0) → sees l c (AcquireCall l k t m) x y v .phase ≡ statusOf (lockIn y l) c
     go (yes q) =
         rw (ap client-of q, eq-eqb (l .0) (l .0) refl, eq-eqb (clientOf k t .0) (clientOf k t .0) refl, ey, ex)
-        (acquired-now s i (clientOf k t) (omega arith) id un (modeOf m) v)
-    go (no q) = rw (eq-eqb (l .0) (l .0) refl, ne-eqb (c .0) (clientOf k t .0) q, ey) (e ∙ sym (acquired-other s (clientOf k t) (modeOf m) c q))
-own _ s x y c v (may-release {l = l} {k = k} {t = t} kb tb n ho) i ex ey e = go (ℕ-discrete (c .0) (clientOf k t .0))
+        (acquired-now pref s i (clientOf k t) (omega arith) id un (modeOf m) v)
+    go (no q) = rw (eq-eqb (l .0) (l .0) refl, ne-eqb (c .0) (clientOf k t .0) q, ey) (e ∙ sym (acquired-other pref s (clientOf k t) (modeOf m) c q))
+own pref _ s x y c v (may-release {l = l} {k = k} {t = t} kb tb n ho) i ex ey e = go (ℕ-discrete (c .0) (clientOf k t .0))
   where
     go : Dec (c .0 ≡ clientOf k t .0) → sees l c (ReleaseCall l k t) x y v .phase ≡ statusOf (lockIn y l) c
     go (yes q) =
         rw (ap client-of q, eq-eqb (l .0) (l .0) refl, eq-eqb (clientOf k t .0) (clientOf k t .0) refl, ey)
-        (sym (released-now s i (clientOf k t) (omega arith) n ho))
-    go (no q) = rw (eq-eqb (l .0) (l .0) refl, ne-eqb (c .0) (clientOf k t .0) q, ey) (e ∙ sym (released-other s (clientOf k t) c q))
-own _ s x y c v (may-deliver {l = l} {i = j} h) i ex ey e = rw (eq-eqb (l .0) (l .0) refl, ex, ey) (delivered-now s i j h c v e)
+        (sym (released-now pref s i (clientOf k t) (omega arith) n ho))
+    go (no q) = rw (eq-eqb (l .0) (l .0) refl, ne-eqb (c .0) (clientOf k t .0) q, ey) (e ∙ sym (released-other pref s (clientOf k t) c q))
+own pref _ s x y c v (may-deliver {l = l} {i = j} h) i ex ey e = rw (eq-eqb (l .0) (l .0) refl, ex, ey) (delivered-now pref s i j h c v e)
 
 -- ---- any call, any lock
 elsewhere : (a : Call) (l : LockId) (x y : Cluster) (c : ClientId) (v : View) → (l .0 ≡ lockOf a .0 → ⊥) → sees l c a x y v ≡ v
@@ -282,7 +283,8 @@ agrees-call a l c x v h e = go (answered a x h) (ℕ-discrete (l .0) (lockOf a .
     go (accepted-by al p q) (no n) = rw (p, elsewhere a l x (perform a x .cluster) c v n, perform-elsewhere a x l n) e
     go (accepted-by al p q) (yes d) =
         rw (p, ap lock-of d)
-        (own a (lockIn x (lockOf a)) x (perform a x .cluster) c v al (h .invs (lockOf a)) refl q (e ∙ ap (λ (z : ℕ). statusOf (lockIn x (lock-of z)) c) d))
+        (own (x .preference) a (lockIn x (lockOf a)) x (perform a x .cluster) c v al (h .invs (lockOf a)) refl q
+        (e ∙ ap (λ (z : ℕ). statusOf (lockIn x (lock-of z)) c) d))
 
 pub agrees : (cs : List Call) (l : LockId) (c : ClientId) (x : Cluster) (v : View) → Reached x → v .phase ≡ statusOf (lockIn x l) c
     → watch l c cs x v .phase ≡ statusOf (lockIn (run cs x) l) c

@@ -133,6 +133,11 @@ unfoldable pub ownedF : Owner → ℕ
 ownedF Unowned = 0
 ownedF (Owned m k) = 1
 
+-- the decider of a free lock knows of a writer
+unfoldable pub waitedF : Owner → Bool → ℕ
+waitedF Unowned b = flag b
+waitedF (Owned m k) b = 0
+
 -- a client holds in another mode than the lock's
 unfoldable pub clash : Owner → Status → ℕ
 clash o Idle = 0

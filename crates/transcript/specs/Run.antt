@@ -23,12 +23,12 @@ use Rattle.model.specs.declared.Replayed.{Replayed}
 use Rattle.model.specs.States.{locks, packets, wireOf, freshLock, lockIn}
 use Rattle.model.specs.WellFormed.{lockFormed, wellFormed}
 use Rattle.model.specs.Refusals.{first}
-use Rattle.model.specs.Calls.{perform, lockOf, latest}
+use Rattle.model.specs.Calls.{withLock, perform, lockOf, latest}
 use Rattle.model.specs.Transcripts.{readRecord, replayed, replayFrom, replayUnless, replayTests, replay}
 use Rattle.model.specs.Listing.{kindOf, rowOf, header, lineOf, refusedLine, linesFrom, linesUnless, listing, Filled, put}
 use Rattle.laws.specs.Records.{record-ends, at-record, at-bad, at-end}
 use Rattle.laws.specs.Shapes.{length-packets}
-use Rattle.laws.specs.Formed.{all-locks, lock-formed, lock-read, read-formed, ready}
+use Rattle.laws.specs.Formed.{cells, lock-formed, lock-read, read-formed, ready}
 use Rattle.laws.specs.Clusters.{perform-formed}
 use Rattle.planning.specs.declared.plan.Plan.{Plan}
 use Rattle.planning.specs.Plans.{Plans, carriedOut}
@@ -51,26 +51,26 @@ module _ (c : Call) (v : Handling) (y : Cluster) where
   unfolding freshLock packets wireOf
   made-range l e q h =
       let k : locks ≤ lockOf c .0 = rw (← q) h in
-      made-by (sym (perform-range c y e k)) refl (rw (List·getD-eq-default (y .locks) freshLock {n = lockOf c .0} (omega (arith, all-locks y e))))
+      made-by (sym (perform-range c y e k)) refl (rw (List·getD-eq-default (y .locks) freshLock {n = lockOf c .0} (omega (arith, cells y e .all-locks))))
 
   -- the call by its plan on the state of its lock l, read with any default
   module _ (l : LockId) (d : LockState) (f : (wellFormed y ≡ true) × ((l .0 < locks) × (l ≡ lockOf c))) {p : Plan}
-      (g : Plans p (getD (y .locks) (l .0) d) (callOn c (getD (y .locks) (l .0) d))) where
+      (g : Plans p (getD (y .locks) (l .0) d) (callOn (y .preference) c (getD (y .locks) (l .0) d))) where
     counted : (z : Cluster) (s : LockState) → wellFormed z ≡ true → lockIn z l ≡ s → length (packets (lockIn z (lockOf c) .wire)) ≡ s .wire .len
-    counted z s w e = rw (← f .1 .1, ← e) (length-packets (lockIn z l .wire) (ready (lockIn z l) (lock-formed z l w (f .1 .0)) .wire))
+    counted z s w e = rw (← f .1 .1, ← e) (length-packets (lockIn z l .wire) (ready _ (lockIn z l) (lock-formed z l w (f .1 .0)) .wire))
 
     -- the state after the step, and the cluster with it
     abbrev pub stepped : LockState
     stepped = carriedOut p (getD (y .locks) (l .0) d)
 
     abbrev pub written : Cluster
-    written = record { locks = set (y .locks) (l .0) stepped }
+    written = withLock y l stepped
 
     pub made-accepted : {v′ : Handling} → p .answer ≡ Accepted → v′ ≡ latest v (p .handling) → Made c v y (p .answer) (stepped .wire .len) v′ written
     made-accepted a h =
         let e = perform-accepts c y l d f g a refl in
         let w : wellFormed written ≡ true = rw (ap (λ (o : Outcome). o .cluster) e) (perform-formed c y (f .0)) in
-        made-by e h (counted written stepped w (getD-set-same (y .locks) (l .0) stepped freshLock (omega (arith, all-locks y (f .0), f .1 .0))))
+        made-by e h (counted written stepped w (getD-set-same (y .locks) (l .0) stepped freshLock (omega (arith, cells y (f .0) .all-locks, f .1 .0))))
 
     pub made-refused : {v′ : Handling} (n : Refusal) → p .answer ≡ Refused n → v′ ≡ latest v (p .handling)
         → Made c v y (p .answer) (getD (y .locks) (l .0) d .wire .len) v′ y
@@ -100,7 +100,7 @@ progress-start bytes x f w =
 module _ {bytes : List ℕ} {x : Cluster} {f : Filled} {i n : ℕ} {v : Handling} {y : Cluster} {g : Filled} (p : Progress bytes x f i n v y g)
   where
     -- the state that a call is planned on, read from the cluster with any default
-    pub progress-lock : (l : LockId) (d : LockState) → l .0 < locks → lockFormed (getD (y .locks) (l .0) d) ≡ true
+    pub progress-lock : (l : LockId) (d : LockState) → l .0 < locks → lockFormed (y .preference) (getD (y .locks) (l .0) d) ≡ true
     progress-lock l d h = read-formed y l d (p .formed) h
 
     pub progress-on : (c : Call) (j : ℕ) (a : Answer) (w : ℕ) {v′ : Handling} {z : Cluster} {h : Filled} → readRecord bytes i ≡ Record c j

@@ -90,7 +90,7 @@ fn run_records(x: Cluster, bytes: &[u8], out: &mut [u8], start: usize) -> Listed
                 if l.0 < LOCKS as u8 {
                     let i = l.0 as usize;
                     let s = y.locks[i];
-                    let p = plan_call(call, s);
+                    let p = plan_call(y.preference, call, s);
                     a = p.answer;
                     let next = p.handling;
                     h = h.latest(next);

@@ -11,6 +11,23 @@ pub const LOCK: LockId = LockId(0);
 pub const EXCLUSIVE: u8 = 2;
 pub const SHARED: u8 = 3;
 
+/// The preferences (document 02, §5).
+pub const READERS: u8 = 0;
+pub const WRITERS: u8 = 1;
+pub const BOTH: [u8; 2] = [READERS, WRITERS];
+
+/// The fresh cluster with one of the two preferences.
+pub fn fresh(preference: u8) -> Cluster {
+    let (outcome, cluster) = Cluster::fresh(preference);
+    accepted(&[answer(outcome)]);
+    cluster
+}
+
+/// The cluster that a run starts from (docs/random-runs.md).
+pub fn run_cluster(seed: u64) -> Cluster {
+    fresh(if seed / 9 % 2 == 1 { WRITERS } else { READERS })
+}
+
 pub fn acquire(cluster: &mut Cluster, machine: u8, task: u8, mode: u8) -> u8 {
     answer(cluster.acquire(LOCK, MachineId(machine), TaskId(task), mode))
 }
@@ -138,8 +155,8 @@ pub fn d6() -> Cluster {
 }
 
 /// 0/0 holds exclusively; a = 1/0 shared, b = 2/0 exclusive and c = 3/0 shared are queued.
-pub fn d12_queue() -> Cluster {
-    let mut cluster = Cluster::new();
+pub fn d12_queue(preference: u8) -> Cluster {
+    let mut cluster = fresh(preference);
     accepted(&[
         acquire(&mut cluster, 0, 0, EXCLUSIVE),
         deliver(&mut cluster, 0),
@@ -157,7 +174,11 @@ pub fn d12_queue() -> Cluster {
 
 /// The exclusive holder has released, and a has got the agent.
 pub fn d12() -> Cluster {
-    let mut cluster = d12_queue();
+    d12_with(READERS)
+}
+
+pub fn d12_with(preference: u8) -> Cluster {
+    let mut cluster = d12_queue(preference);
     accepted(&[
         release(&mut cluster, 0, 0),
         deliver(&mut cluster, 0),

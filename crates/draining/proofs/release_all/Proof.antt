@@ -11,12 +11,12 @@ release-all-spec = tie.close (tie.spec (Since Quiet) (λ _ d. d .left) (λ c. (a
     (search needs)
     (λ c. let b = c .before .before in
     let i = b .before .before .before .before .loop .inv in
-    let n = none-holds _ (i .0 .0 .formed) (b .before .before .if1 .taken) _ (b .first-holder .ensures) (c .before .if2 .taken) in
+    let n = none-holds _ _ (i .0 .0 .formed) (b .before .before .if1 .taken) _ (b .first-holder .ensures) (c .before .if2 .taken) in
     rw (c .end-with .ensures) (since-more Quiet i (progress-quiescent (i .0 .0) n), λ e. absurd (true≢false e)))
-    (λ c κs. ready _ (c .before .before .before .before .before .loop .inv .0 .0 .formed)) (search needs) (search needs)
+    (λ c κs. ready _ _ (c .before .before .before .before .before .loop .inv .0 .0 .formed)) (search needs) (search needs)
     (λ c κs. let b = c .before .before in
     let o = b .before .before .before .before .before .before .before .loop .inv .0 .0 in
-    (ready _ (o .formed) .wire, b .before .plan-release .ensures .fits (within-made (b .step-answer .ensures) (c .enum-told .given .1) .1)))
+    (ready _ _ (o .formed) .wire, b .before .plan-release .ensures .fits (within-made (b .step-answer .ensures) (c .enum-told .given .1) .1)))
     (search needs)
     (λ c. let e = c .before .before .before in let m = within-made (e .before .before .step-answer .ensures) (e .enum-told .given .1) in omega (arith, m .0))
     (λ c. let e = c .before .before .before in let m = within-made (e .before .before .step-answer .ensures) (e .enum-told .given .1) in omega (arith, m .0))
@@ -24,7 +24,7 @@ release-all-spec = tie.close (tie.spec (Since Quiet) (λ _ d. d .left) (λ c. (a
     let b = e .before .before in
     let f = b .before .before .before in
     let i = f .before .before .before .before .loop .inv in
-    let h = release-planned _ (i .0 .0 .formed) (f .before .before .if1 .taken) _ (f .first-holder .ensures) _ (b .before .before .if2 .left) in
+    let h = release-planned _ _ (i .0 .0 .formed) (f .before .before .if1 .taken) _ (f .first-holder .ensures) _ (b .before .before .if2 .left) in
     rw (c .before .told-next .ensures, c .before .before .carry-out .ensures)
     (since-next Quiet i (progress-made (i .0 .0, h (b .before .plan-release .ensures)) (b .step-answer .ensures) (e .enum-told .given .1))
     (i .0 .0 .goes)))
@@ -32,7 +32,7 @@ release-all-spec = tie.close (tie.spec (Since Quiet) (λ _ d. d .left) (λ c. (a
     (λ c. let b = c .before .before .before in
     let f = b .before .before .before in
     let i = f .before .before .before .before .loop .inv in
-    let h = release-planned _ (i .0 .0 .formed) (f .before .before .if1 .taken) _ (f .first-holder .ensures) _ (b .before .before .if2 .left) in
+    let h = release-planned _ _ (i .0 .0 .formed) (f .before .before .if1 .taken) _ (f .first-holder .ensures) _ (b .before .before .if2 .left) in
     rw (c .end-with2 .ensures) (
       since-more Quiet i (progress-stops (i .0 .0, h (b .before .plan-release .ensures)) (b .step-answer .ensures) _ (c .before .enum-told2 .given .1)),
       λ e. absurd (true≢false e),

@@ -6,7 +6,7 @@ use Rattle.exports.proofs.domezatsy_calls.Tie as tie
 
 pub domezatsy-calls-spec : {M : Type 1} → statement M
 domezatsy-calls-spec = tie.close (tie.spec (λ bytes _ _ _ _. Counts bytes) (λ _ _ _ _ _ _ _ _ left. left) (search needs)
-    (λ c. rw (c .fresh .ensures) (counts-start _)) (search needs) (search needs) (search needs) (search needs) (search needs) (search needs)
+    (λ c. rw (c .before .fresh .ensures) (counts-start _)) (search needs) (search needs) (search needs) (search needs) (search needs) (search needs)
     (λ c. let b = c .before .before in
     counts-all (b .before .before .loop .inv) (calls-bad _ _ _ (sym (b .read-at .ensures) ∙ c .enum-told .given .1))) (search needs)
     (λ c. let b = c .before .before in

@@ -12,7 +12,6 @@ returns c =
 
 pub unmarked-arrives-spec : {M : Type 1} → statement M
 unfolding unmarked
-unmarked-arrives-spec = tie.close (tie.spec (search needs) (search needs) (search needs) (search needs) (search needs) (search needs) (search needs)
-    (λ c κs. search needs)
-    returns
+unmarked-arrives-spec = tie.close (tie.spec (λ c κs. c .pre .0) (search needs) (search needs) (search needs) (search needs) (search needs)
+    (search needs) (λ c κs. c .before .before .pre .1) returns
     (λ c. rw (c .queue-last .ensures, ← c .before .before .may-join .ensures, c .before .if1 .left)))

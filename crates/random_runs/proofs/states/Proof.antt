@@ -4,5 +4,5 @@ use Rattle.random_runs.proofs.states.Statement.{statement}
 use Rattle.random_runs.proofs.states.Tie as tie
 
 pub states-spec : {M : Type 1} → statement M
-states-spec = tie.close (tie.spec (λ _ _. Unit) (λ _ seed. 4001 - seed) (search needs) (search needs) (search needs) (search needs) (search needs)
+states-spec = tie.close (tie.spec (λ _ _. Unit) (λ _ seed. 5001 - seed) (search needs) (search needs) (search needs) (search needs) (search needs)
     (search needs))

@@ -4,9 +4,9 @@ use Rattle.engine.proofs.lock_calls.acquire_on.Tie as tie
 
 pub acquire-on-spec : {M : Type 1} → statement M
 unfolding acquireOn stepUnless
-acquire-on-spec = tie.close (tie.spec (λ c κs. ready _ (c .pre) .wire) (search needs)
+acquire-on-spec = tie.close (tie.spec (λ c κs. ready _ _ (c .pre) .wire) (search needs)
     (λ c κs. in-range _ _ _ (sym (c .before .before .acquire-test .ensures) ∙ c .enum-told .given .1)) (search needs)
-    (λ c κs. ready _ (c .before .before .before .before .before .pre)) (search needs) (search needs)
+    (λ c κs. ready _ _ (c .before .before .before .before .before .pre)) (search needs) (search needs)
     (λ c. let b = c .before .before .before in
     rw (← b .before .before .acquire-test .ensures, b .enum-told .given .1, ← c .before .before .client-of .ensures, ← c .before .mode-of .ensures)
     (c .plan-acquire .ensures))

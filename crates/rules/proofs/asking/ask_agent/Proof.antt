@@ -12,6 +12,6 @@ returns c =
 
 pub ask-agent-spec : {M : Type 1} → statement M
 unfolding clientAsks
-ask-agent-spec = tie.close (tie.spec (search needs) (search needs) (search needs) (search needs) (search needs) (search needs) (search needs) (search needs)
-    (λ c κs. search needs) returns
+ask-agent-spec = tie.close (tie.spec (λ c κs. c .pre .0) (search needs) (search needs) (search needs) (search needs) (search needs) (search needs)
+    (search needs) (λ c κs. c .before .before .before .pre .1) returns
     (λ c. rw (c .queue-last .ensures, c .before .with-status2 .ensures, ← c .before .before .before .may-join .ensures, c .before .before .if1 .left)))

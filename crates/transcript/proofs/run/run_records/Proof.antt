@@ -33,7 +33,7 @@ carry-out-requires c κs =
     let t = c .before .before .before .before .before .before in
     let s = t .before .before in
     let f = progress-lock (s .before .before .before .before .before .loop .inv .0) (s .lock-of .result) _ (omega (arith, t .if1 .taken)) in
-    (ready _ f .wire, c .before .before .before .plan-call .ensures .fits (c .enum-told .given .1))
+    (ready _ _ f .wire, c .before .before .before .plan-call .ensures .fits (c .enum-told .given .1))
 
 add-n : tie.Need-add-n Inv-loop μ-loop
 add-n c =

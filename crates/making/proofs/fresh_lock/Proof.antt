@@ -1,6 +1,6 @@
-use Rattle.engine.proofs.Base.{needs, freshLock}
-use Rattle.engine.proofs.cluster.fresh_lock.Statement.{statement}
-use Rattle.engine.proofs.cluster.fresh_lock.Tie as tie
+use Rattle.making.proofs.Base.{needs, freshLock}
+use Rattle.making.proofs.fresh_lock.Statement.{statement}
+use Rattle.making.proofs.fresh_lock.Tie as tie
 
 pub fresh-lock-spec : {M : Type 1} → statement M
 unfolding freshLock

@@ -1,12 +1,14 @@
-// A fresh cluster, and a refused call.
+// A cluster is made, or what was called is refused.
 use model::Answer;
 use model::CLIENTS;
 use model::ClientState;
 use model::Cluster;
 use model::Handling;
+use model::LOCKS;
 use model::LockState;
 use model::MACHINES;
 use model::Outcome;
+use model::PREFERENCES;
 use model::Refusal;
 use model::Status;
 use model::WIRE_CAPACITY;
@@ -16,8 +18,8 @@ use parts::blank::no_agent;
 use parts::blank::unowned;
 ghost use mathlib.Core.Path.{_≡_};
 ghost use mathlib.Core.List.{[]};
-ghost use Rattle.model.specs.States.{wireOf, freshLock};
-ghost use Rattle.model.specs.Calls.{refusing};
+ghost use Rattle.model.specs.States.{wireOf, freshLock, freshWith};
+ghost use Rattle.model.specs.Calls.{refusing, fresh};
 
 fn empty_wire() -> Wire
     ensures { λ r. ⌜ r ≡ wireOf [] ⌝ }
@@ -29,7 +31,7 @@ fn empty_wire() -> Wire
     }
 }
 
-pub(crate) fn fresh_lock() -> LockState
+fn fresh_lock() -> LockState
     ensures { λ r. ⌜ r ≡ freshLock ⌝ }
 {
     let d = unowned();
@@ -46,12 +48,37 @@ pub(crate) fn fresh_lock() -> LockState
     }
 }
 
-pub(crate) fn refuse_call(n: Refusal, x: Cluster) -> Outcome
+fn fresh_with(n: u8) -> Cluster
+    ensures { λ r. ⌜ r ≡ freshWith n ⌝ }
+{
+    let s = fresh_lock();
+    Cluster {
+        preference: n,
+        locks: [s; LOCKS],
+    }
+}
+
+pub fn refuse_call(n: Refusal, x: Cluster) -> Outcome
     ensures { λ r. ⌜ r ≡ refusing n x ⌝ }
 {
     Outcome {
         answer: Answer::Refused(n),
         handling: Handling::None,
         cluster: x,
+    }
+}
+
+// A fresh cluster, with the preference 0 for readers or 1 for writers. Any other is refused, and the cluster beside the refusal prefers readers.
+pub fn fresh(preference: u8) -> Outcome
+    ensures { λ r. ⌜ r ≡ fresh preference ⌝ }
+{
+    if preference < PREFERENCES {
+        Outcome {
+            answer: Answer::Accepted,
+            handling: Handling::None,
+            cluster: fresh_with(preference),
+        }
+    } else {
+        refuse_call(Refusal::PreferenceRange, fresh_with(0))
     }
 }
