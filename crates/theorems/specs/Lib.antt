@@ -46,3 +46,6 @@ pub mod Reasons
 pub mod FirstCome
 -- ---- why a request came back
 pub mod Handlings
+-- ---- what a cluster prefers, and writers first
+pub mod Preferences
+pub mod WritersFirst

@@ -1,4 +1,4 @@
--- What is proved, in Theorems, Drains, Listings, Counts, Reasons, FirstCome and Handlings: of the numbers of answers, and of every
+-- What is proved, in Theorems, Drains, Listings, Counts, Reasons, FirstCome, Handlings, Preferences and WritersFirst: of the numbers of answers, and of every
 -- list of calls on a fresh cluster, made with any preference n, as given: one above 1 is refused, and the cluster beside that prefers readers. Past the last, a
 -- lock reads as fresh and a client as idle.
 use Rattle.model.specs.Drain.{allowance, Quiescent, drainCalls, drain}
@@ -13,7 +13,7 @@ use Rattle.theorems.specs.Names.{current, packetAt, run, answersOf, perf
 use Rattle.theorems.specs.Names.{after, _++_, map, Packet, MachineId, Unowned, Owned, LockState, Bool, false, not, _||_, count, agentOn, ownedShared}
 use Rattle.theorems.specs.Names.{names, isFree, agentsIn, marksIn, uncounted, TaskId, Reason, ReasonAnswer, Because, machines, tasks, clientOf}
 use Rattle.theorems.specs.Names.{isTrue, reasonIn, reason, reasonNumber, reasonValues, Waiter, Agent, ToMachine, Grant, _&&_, isShared, waiters, carrying}
-use Rattle.theorems.specs.Names.{removed, grantOf, acquire, release, deliver, ToDecider}
+use Rattle.theorems.specs.Names.{removed, grantOf, acquire, release, deliver, preferences, prefersWriters, freshWith, writerIn, Shared, ToDecider}
 use Rattle.theorems.specs.Names.{Message, Free, Acquire, Release, Handling, None, NoAgent, NotHolder, Taken, sentBack, lists, handlingsOf, lastTold}
 use Rattle.theorems.specs.Names.{wireOf}
 use lib.ListN.{take}
@@ -252,3 +252,33 @@ pub record TellsWhy (x : Cluster) : Type 0 where
   pub drain-refused : (l : LockId) (r : Refusal) → drain x l .answer ≡ Refused r → drain x l .handling ≡ None
   pub transcripts : (bytes : List ℕ) → first (replayTests x bytes) ≡ Accepted → Last (handlingsOf (callsOf bytes) x) (replay x bytes .handling)
   pub untested : (bytes : List ℕ) (r : Refusal) → first (replayTests x bytes) ≡ Refused r → replay x bytes .handling ≡ None
+
+-- Request 5 of document 02: sites that prefer writers. Making a cluster: a preference is for readers or for writers, and it stays what it is.
+pub record Prefers (n : ℕ) : Type 0 where
+  pub made : n < preferences → (number (fresh n .answer) ≡ 0) × (fresh n .cluster ≡ freshWith n)
+  pub refused : (n < preferences → ⊥) → (number (fresh n .answer) ≡ 16) × (fresh n .cluster ≡ freshWith 0)
+  pub fixed : (cs : List Call) → after n cs .preference ≡ fresh n .cluster .preference
+  -- where readers are preferred, no decider ever knows of a writer
+  pub clear : (cs : List Call) (l : LockId) → prefersWriters (fresh n .cluster .preference) ≡ false → lockIn (after n cs) l .decider .writer ≡ false
+
+-- A shared client c goes to the end of the queue of the agent on machine k: it does not join the holders. s and t are the lock's states before and after, and
+-- rest is what was on the wire and stays there: nothing is sent.
+pub record StandsBehind (s t : LockState) (k : MachineId) (c : ClientId) (rest : List Packet) : Type 0 where
+  pub there : agentOn t k .present ≡ true
+  pub holders : agentOn t k .agent .holders ≡ agentOn s k .agent .holders
+  pub queue : waiters (agentOn t k .agent .queue) ≡ waiters (agentOn s k .agent .queue) ++ record { client = c; mode = Shared } ∷ []
+  pub wire : packets (t .wire) ≡ rest
+
+-- On any cluster that prefers writers, made by hand or not: while an exclusive waiter stands in the queue of the agent on machine k, that is so of every
+-- unmarked shared request that arrives there, and of every client's own.
+pub record NotPassed (x : Cluster) (l : LockId) (k : MachineId) : Type 0 where
+  pub arriving : (i : ℕ) (c : ClientId) → packetAt (lockIn x l) i .to ≡ ToMachine k → packetAt (lockIn x l) i .message ≡ Acquire c Shared false
+      → deliver x l i .answer ≡ Accepted
+      → StandsBehind (lockIn x l) (lockIn (deliver x l i .cluster) l) k c (removed (packets (lockIn x l .wire)) i)
+  pub own : (t : TaskId) → acquire x l k t 3 .answer ≡ Accepted
+      → StandsBehind (lockIn x l) (lockIn (acquire x l k t 3 .cluster) l) k (clientOf k t) (packets (lockIn x l .wire))
+
+abbrev pub WritersFirst : Cluster → Type 0
+WritersFirst x =
+    x .preference ≡ 1 → (l : LockId) (k : MachineId) → agentOn (lockIn x l) k .present ≡ true → writerIn (agentOn (lockIn x l) k .agent) ≡ true
+    → NotPassed x l k

@@ -1,0 +1,37 @@
+-- What a cluster prefers (request 5 of document 02): which preferences are accepted, that a cluster keeps its own, and that with readers preferred no decider
+-- knows of a writer.
+use Rattle.model.specs.WellFormed.{ownerInRange}
+use Rattle.laws.specs.Lists.{all-getD}
+use Rattle.laws.specs.Formed.{parts, cells}
+use Rattle.laws.specs.Clusters.{fresh-lock-formed}
+use Rattle.laws.specs.CallSteps.{perform-preference}
+use Rattle.theorems.specs.Names.{LockId, Cluster, Call, _≡_, refl, sym, _∙_, Bool, true, false, _||_, not, false≢true, List, [], _∷_, ℕ, ltb, ltb-true}
+use Rattle.theorems.specs.Names.{lt-ltb, freshLock, lockIn, preferences, prefersWriters, lockFormed, wellFormed, perform, run, after, fresh, and-right}
+use Rattle.theorems.specs.Names.{bool-cases}
+use Rattle.theorems.specs.Runs.{reached}
+use Rattle.theorems.specs.Statements.{Prefers}
+
+run-preference : (cs : List Call) (x : Cluster) → run cs x .preference ≡ x .preference
+unfolding run
+run-preference [] x = refl
+run-preference (c ∷ cs) x = run-preference cs (perform c x .cluster) ∙ perform-preference c x
+
+-- a bit that is in order is clear where readers are preferred
+clear-bit : (b p : Bool) → (not b || p) ≡ true → p ≡ false → b ≡ false
+clear-bit true p e q = absurd (false≢true (sym q ∙ e))
+clear-bit false p e q = refl
+
+no-writer : (x : Cluster) (l : LockId) → wellFormed x ≡ true → prefersWriters (x .preference) ≡ false → lockIn x l .decider .writer ≡ false
+no-writer x l w q =
+    let f = all-getD (lockFormed (x .preference)) (x .locks) (l .0) freshLock (cells x w .locks) (fresh-lock-formed (x .preference)) in
+    clear-bit _ (prefersWriters (x .preference)) (and-right (ownerInRange (lockIn x l .decider .owner)) _ (parts (lockIn x l) f .decider)) q
+
+pub prefers : (n : ℕ) → Prefers n
+unfolding fresh
+prefers n =
+    record {
+      made = λ h. rw (lt-ltb n preferences h) (refl, refl);
+      refused = λ h. bool-cases (ltb n preferences) (λ e. absurd (h (ltb-true n preferences e))) (λ e. rw e (refl, refl));
+      fixed = λ cs. run-preference cs (fresh n .cluster);
+      clear = λ cs l q. no-writer (after n cs) l (reached n cs .formed) (rw (run-preference cs (fresh n .cluster)) q);
+    }
