@@ -1,6 +1,6 @@
 -- What the decider does with a packet (document 01, "At the decider"; Figure 8 and 4.2 of the source). It knows the owner, the machine to which all
 -- that concerns the agent is sent, and counts in its incarnation the shared requests that it granted itself since it chose the owner. Where writers are
--- preferred it has a bit that says that one waits (request 5 of document 02); it sets it in two places, and else it is clear.
+-- preferred it has a bit that says that one waits (request 5 of document 02): `noting` and `passesOn` set it, and a FREE clears it.
 use mathlib.Core.Bool.{Bool, true, false, _&&_, _||_, not}
 use mathlib.Core.List.{[], _∷_}
 use Prim.Native.Nat.{ℕ, _+_, _%_}
@@ -30,7 +30,7 @@ abbrev pub grantsWith : Site → ClientId → Mode → Agent → Bool → Verdic
 grantsWith v c m a b =
     does (withDecider v (record { owner = Owned m (machineOf c); incarnation = 0; writer = b })) (carrying (Grant c m) (ToMachine (machineOf c)) a ∷ [])
 
--- A request for a free lock: the agent is a new one.
+-- A request for a free lock: the agent is a new one, and the bit stays as it is.
 abbrev pub grantsFirst : Site → ClientId → Mode → Verdict
 grantsFirst v c m = grantsWith v c m (newAgent m) (v .decider .writer)
 

@@ -40,7 +40,7 @@ pub use Rattle.model.specs.Changes.{siteOf, withDecider, withSlot, withStatus, 
 unfoldable pub use Rattle.model.specs.Changes.{finish}
 pub use Rattle.model.specs.Asking.{changed, joining, queuing, noRoom, withRoom, anyHolder, without, departing, leaves, lists, writerIn}
 unfoldable pub use Rattle.model.specs.Asking.{mayJoin, clientAsks, clientAcquires, handOver, staysIf, clientReleases}
-pub use Rattle.model.specs.AtDecider.{next, ownedShared, grantsFirst, shares, noting, current, rejects, passesOn}
+pub use Rattle.model.specs.AtDecider.{next, ownedShared, grantsWith, grantsFirst, shares, noting, current, rejects, passesOn}
 unfoldable pub use Rattle.model.specs.AtDecider.{mayShare, toOwner, decidesAcquire, decidesFree, decidesGrant, decides, atDecider}
 pub use Rattle.model.specs.AtMachine.{sentBack, sendsBack, grantOf, installed, requeued}
 unfoldable pub use Rattle.model.specs.AtMachine.{admitted, staying, joined, installs, grantArrives, rejectedGrantArrives, marked, unmarked, acquireArrives}

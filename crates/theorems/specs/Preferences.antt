@@ -7,9 +7,9 @@ use Rattle.laws.specs.Clusters.{fresh-lock-formed}
 use Rattle.laws.specs.CallSteps.{perform-preference}
 use Rattle.theorems.specs.Names.{LockId, Cluster, Call, _≡_, refl, sym, _∙_, Bool, true, false, _||_, not, false≢true, List, [], _∷_, ℕ, ltb, ltb-true}
 use Rattle.theorems.specs.Names.{lt-ltb, freshLock, lockIn, preferences, prefersWriters, lockFormed, wellFormed, perform, run, after, fresh, and-right}
-use Rattle.theorems.specs.Names.{bool-cases}
+use Rattle.theorems.specs.Names.{bool-cases, MachineId, ClientId, Site, ap, _&&_, and-true, isShared, siteOf, mayJoin, ownedShared, mayShare}
 use Rattle.theorems.specs.Runs.{reached}
-use Rattle.theorems.specs.Statements.{Prefers}
+use Rattle.theorems.specs.Statements.{Prefers, AsBefore, ReadersAsBefore}
 
 run-preference : (cs : List Call) (x : Cluster) → run cs x .preference ≡ x .preference
 unfolding run
@@ -35,3 +35,18 @@ prefers n =
       fixed = λ cs. run-preference cs (fresh n .cluster);
       clear = λ cs l q. no-writer (after n cs) l (reached n cs .formed) (rw (run-preference cs (fresh n .cluster)) q);
     }
+
+-- ---- with readers preferred every rule is what it was
+as-before : (v : Site) → v .preference ≡ 0 → v .decider .writer ≡ false → AsBefore v
+unfolding mayShare mayJoin
+as-before v n w =
+    record {
+      shares = λ m. rw w (ap (λ (b : Bool). ownedShared (v .decider .owner) && b) (and-true (isShared m)));
+      joins = λ m. rw n (ap (λ (b : Bool). isShared (v .slot .agent .mode) && b) (and-true (isShared m)));
+      sent-on = λ m. rw (n, w);
+      first-granted = λ c m. rw w;
+      passed-on = λ c m a. rw n;
+    }
+
+pub readers-as-before : (x : Cluster) → ReadersAsBefore x
+readers-as-before x w n l k c = as-before (siteOf 0 (lockIn x l) k c) refl (no-writer x l w (rw n))

@@ -15,7 +15,7 @@ use Rattle.theorems.specs.Names.{names, isFree, agentsIn, marksIn, uncou
 use Rattle.theorems.specs.Names.{isTrue, reasonIn, reason, reasonNumber, reasonValues, Waiter, Agent, ToMachine, Grant, _&&_, isShared, waiters, carrying}
 use Rattle.theorems.specs.Names.{removed, grantOf, acquire, release, deliver, preferences, prefersWriters, freshWith, writerIn, Shared, ToDecider}
 use Rattle.theorems.specs.Names.{Message, Free, Acquire, Release, Handling, None, NoAgent, NotHolder, Taken, sentBack, lists, handlingsOf, lastTold}
-use Rattle.theorems.specs.Names.{wireOf}
+use Rattle.theorems.specs.Names.{wireOf, Site, siteOf, mayShare, mayJoin, noting, grantsFirst, grantsWith, passesOn, newAgent, changed}
 use lib.ListN.{take}
 
 -- Different answers have different numbers, and 0 is the number of the accepted alone.
@@ -260,6 +260,19 @@ pub record Prefers (n : ℕ) : Type 0 where
   pub fixed : (cs : List Call) → after n cs .preference ≡ fresh n .cluster .preference
   -- where readers are preferred, no decider ever knows of a writer
   pub clear : (cs : List Call) (l : LockId) → prefersWriters (fresh n .cluster .preference) ≡ false → lockIn (after n cs) l .decider .writer ≡ false
+
+-- With readers preferred every rule is what it was without a preference. At a site the tests ask only whether lock or agent and request are shared, a request
+-- that is sent on leaves what the decider knows, and where the decider is written its bit is clear.
+pub record AsBefore (v : Site) : Type 0 where
+  pub shares : (m : Mode) → mayShare v m ≡ (ownedShared (v .decider .owner) && isShared m)
+  pub joins : (m : Mode) → mayJoin v m ≡ (isShared (v .slot .agent .mode) && isShared m)
+  pub sent-on : (m : Mode) → noting v m ≡ v
+  pub first-granted : (c : ClientId) (m : Mode) → grantsFirst v c m ≡ grantsWith v c m (newAgent m) false
+  pub passed-on : (c : ClientId) (m : Mode) (a : Agent) → passesOn v c m a ≡ grantsWith v c m (changed a (a .holders) (a .queue) 0) false
+
+-- That is so at each site of a well-formed cluster with the preference 0, made by hand or not; no rule meets any other.
+abbrev pub ReadersAsBefore : Cluster → Type 0
+ReadersAsBefore x = wellFormed x ≡ true → x .preference ≡ 0 → (l : LockId) (k : MachineId) (c : ClientId) → AsBefore (siteOf 0 (lockIn x l) k c)
 
 -- A shared client c goes to the end of the queue of the agent on machine k: it does not join the holders. s and t are the lock's states before and after, and
 -- rest is what was on the wire and stays there: nothing is sent.
