@@ -1,4 +1,4 @@
--- Where writers are preferred no reader passes one in a queue (request 5 of document 02), on any cluster.
+-- Where writers are preferred no unmarked reader passes one in a queue (request 5 of document 02), on any cluster.
 use Rattle.laws.specs.Tests.{pick-by}
 use Rattle.laws.specs.Formed.{parts, packet-at, lock-formed}
 use Rattle.laws.specs.CallSteps.{Allowed, may-acquire, may-deliver, perform-here, not-accepted, Passes, passes}
