@@ -10,6 +10,7 @@ unfoldable pub use Rattle.model.specs.Calls.{perform}
 pub use Rattle.model.specs.Reasons.{reasonTests}
 unfoldable pub use Rattle.model.specs.Reasons.{reasonUnless, reason}
 pub use Rattle.model.specs.declared.{LockState.LockState, ReasonAnswer.ReasonAnswer}
+pub use Rattle.laws.specs.Lists.{at-any}
 pub use Rattle.laws.specs.Shapes.{length-packets}
 pub use Rattle.laws.specs.Formed.{ready, lock-read, read-formed}
 pub use Rattle.planning.specs.Plans.{plan-accepts, plan-refuses}

@@ -4,6 +4,7 @@
 use model::Answer;
 use model::Call;
 use model::ClientId;
+use model::Found;
 use model::LockId;
 use model::LockState;
 use model::MACHINES;
@@ -13,9 +14,9 @@ use model::Refusal;
 use model::Status;
 use model::TASKS;
 use model::TaskId;
+use parts::search::first_naming;
 use parts::state::is_holding;
 use parts::state::status_at;
-use parts::wire::is_named;
 use planning::plan::refuse;
 use planning::steps::plan_acquire;
 use planning::steps::plan_deliver;
@@ -75,10 +76,10 @@ fn idle_test(s: LockState, c: ClientId) -> Answer
 {
     let clients = s.clients;
     if is_idle(status_at(clients, c)) {
-        if is_named(s.wire, c) {
-            Answer::Refused(Refusal::StillNamed)
-        } else {
-            Answer::Accepted
+        let f = first_naming(s.wire, c);
+        match f {
+            Found::At(_) => Answer::Refused(Refusal::StillNamed),
+            Found::Nowhere => Answer::Accepted,
         }
     } else {
         Answer::Refused(Refusal::NotIdle)

@@ -2,6 +2,7 @@
 pub mod Names
 pub mod Tests
 pub mod Lists
+pub mod Finding
 pub mod Shapes
 pub mod Formed
 pub mod Making

@@ -7,7 +7,7 @@ use native.Mathlib.Omega.{arith}
 use lib.ListN.{length, take, drop, getD, set, replicate}
 use lib.Seq.{take-append-seam}
 use Rattle.model.specs.Lists.{any, all, isAt, padded, removed}
-use Rattle.laws.specs.Tests.{and-left, and-right, both, or-left, or-right, neither}
+use Rattle.laws.specs.Tests.{and-left, and-right, both, or-left, or-right, neither, bool-cases}
 
 module _ {A : Type 0} where
   -- past no end the default does not matter
@@ -69,6 +69,19 @@ module _ {A : Type 0} where
   pub none-end : (p : A → Bool) (xs : List A) (y : A) → any p xs ≡ false → p y ≡ false → any p (xs ++ y ∷ []) ≡ false
   none-end p [] y e f = neither (p y) false f refl
   none-end p (x ∷ xs) y e f = neither (p x) _ (or-left (p x) _ e) (none-end p xs y (or-right (p x) _ e) f)
+
+  -- ---- a test of one element
+  pub at-getD : (p : A → Bool) (xs : List A) (i : ℕ) (d : A) → i < length xs → isAt p xs i ≡ p (getD xs i d)
+  unfolding isAt
+  at-getD p [] i d h = absurd (omega arith)
+  at-getD p (x ∷ xs) zero d h = refl
+  at-getD p (x ∷ xs) (suc i) d h = at-getD p xs i d (omega arith)
+
+  pub at-any : (p : A → Bool) (xs : List A) (i : ℕ) → isAt p xs i ≡ true → any p xs ≡ true
+  unfolding isAt
+  at-any p [] i e = e
+  at-any p (x ∷ xs) zero e = rw e
+  at-any p (x ∷ xs) (suc i) e = bool-cases (p x) (λ t. rw t) (λ t. rw t (at-any p xs i e))
 
   -- ---- a list with some of its elements left out
   pub data Sublist : List A → List A → Type 0 where

@@ -1,8 +1,10 @@
 -- A choice by a test, and tests over lists.
+use mathlib.Core.Path.{_≡_}
 use mathlib.Core.Bool.{Bool, true, false, _&&_, _||_}
 use mathlib.Core.List.{List, [], _∷_, _++_}
 use Prim.Native.Nat.{ℕ, zero, suc, _+_, _-_}
-use lib.ListN.{length, replicate}
+use lib.ListN.{length, take, replicate}
+use Rattle.model.specs.Names.{Found, Nowhere, At}
 
 abbrev pub pick : {A : Type 0} → Bool → A → A → A
 pick true a b = a
@@ -27,6 +29,12 @@ module _ {A : Type 0} where
   isAt p [] i = false
   isAt p (x ∷ xs) zero = p x
   isAt p (x ∷ xs) (suc i) = isAt p xs i
+
+  -- What a search for the first that passes comes to (document 02, "The busy-client test"): the element at the index passes and none before it does; or
+  -- nowhere, and none of them passes.
+  abbrev pub IsFirst : (A → Bool) → List A → Found → Type 0
+  IsFirst p xs (At i) = (isAt p xs i ≡ true) × (any p (take i xs) ≡ false)
+  IsFirst p xs Nowhere = any p xs ≡ false
 
   -- the indices of its elements, counted from n on
   unfoldable pub indices : ℕ → List A → List ℕ

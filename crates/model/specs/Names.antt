@@ -16,5 +16,6 @@ pub use Rattle.model.specs.declared.{Refusal.the-variants.{PreferenceRan
 pub use Rattle.model.specs.declared.{Answer.Answer, Answer.the-variants.{Accepted, Refused}}
 pub use Rattle.model.specs.declared.{Reason.Reason, Reason.the-variants.{Requested, Granted, Rejected, Queued, Carried}}
 pub use Rattle.model.specs.declared.{ReasonAnswer.ReasonAnswer, ReasonAnswer.the-variants.{Because, Refused as NoReason}}
+pub use Rattle.model.specs.declared.{Found.Found, Found.the-variants.{Nowhere, At}}
 pub use Rattle.model.specs.declared.{Handling.Handling, Handling.the-variants.{None, NoAgent, NotHolder, Taken}}
 pub use Rattle.model.specs.declared.{Stepped.Stepped, Outcome.Outcome, Drained.Drained, Replayed.Replayed}

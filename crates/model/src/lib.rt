@@ -203,6 +203,12 @@ pub enum ReasonAnswer {
     Refused(Refusal),
 }
 
+// What a search comes to: nowhere, or the index of what it found.
+pub enum Found {
+    Nowhere,
+    At(u8),
+}
+
 // What a machine made of an ACQUIRE or RELEASE that was delivered to it: it has no agent; it has one that does not list the client of the RELEASE; or it took
 // it. None: the step was no such delivery, or was refused.
 pub enum Handling {

@@ -14,10 +14,11 @@ pub use Rattle.model.specs.States.{machines, clients, queueCapacity, wireCapaci
 unfoldable pub use Rattle.model.specs.States.{queueOf, waiters, noAgent, blankPacket, packets}
 pub use Rattle.model.specs.WellFormed.{isClient}
 pub use Rattle.model.specs.Asking.{isWriter}
-pub use Rattle.model.specs.Calls.{names}
 pub use Rattle.laws.specs.Lists.{getD-any}
 pub use Rattle.laws.specs.Shapes.{packet-is, waiter-is}
 pub use Rattle.parts.specs.Arrays.{cutUsed, cutUsed-step, cutUsed-last, cutAt, cutAt-in, cutAt-out, cutAt-step, slid, slid-down, slid-last}
 pub use Rattle.parts.specs.Writes.{queued-at, cut-off, popped, fronted}
 pub use Rattle.parts.specs.Scans.{any-hit, any-miss, any-none, used-hit, used-miss, used-none}
+pub use Rattle.parts.specs.Scans.{Seeking, seeking, seek-hit, seek-miss, seek-end}
+pub use Rattle.parts.specs.Sought.{isSought}
 pub use Rattle.laws.specs.Tests.{pick-yes, pick-no}

@@ -6,8 +6,10 @@ use Prim.Native.Nat.{ℕ, _+_, _<_, _≤_, min}
 use native.Mathlib.Numerals.{add-one}
 use native.Mathlib.Omega.{arith}
 use lib.ListN.{length, take, drop, getD, length-take, drop-of-length-le}
-use lib.Seq.{drop-cons, getD-take, length-take-le}
-use Rattle.model.specs.Lists.{any, all}
+use lib.Seq.{drop-cons, getD-take, length-take-le, take-suc, take-all}
+use Rattle.model.specs.declared.{Found.the-variants.{Nowhere, At}}
+use Rattle.model.specs.Lists.{any, all, IsFirst}
+use Rattle.laws.specs.Lists.{none-end, at-getD}
 
 module _ {A : Type 0} where
   -- a loop over all of xs keeps `any p (drop j xs) ≡ any p xs`
@@ -25,6 +27,13 @@ module _ {A : Type 0} where
   pub all-more : (xs : List A) (j : ℕ) (d : A) → j < length xs → drop j xs ≡ getD xs j d ∷ drop (j + 1) xs
   all-more xs j d k = rw add-one (drop-cons xs j d k)
 
+  -- a loop through xs has come to j, and none before it passes
+  pub record Seeking (p : A → Bool) (xs : List A) (j : ℕ) : Type 0 where
+    pub none : any p (take j xs) ≡ false
+
+  pub seeking : (p : A → Bool) (xs : List A) → Seeking p xs 0
+  seeking p xs = record { none = refl }
+
   -- of its first len slots, or of all s where these are fewer, and their end
   module _ (len : ℕ) (xs : List A) {m s : ℕ} (q : m ≡ min len s) (e : length xs ≡ s) where
     pub in-use-more : (j : ℕ) (d : A) → j < m → drop j (take len xs) ≡ getD xs j d ∷ drop (j + 1) (take len xs)
@@ -34,6 +43,22 @@ module _ {A : Type 0} where
 
     pub in-use-end : (j : ℕ) → m ≤ j → drop j (take len xs) ≡ []
     in-use-end j k = let past : length (take len xs) ≤ j = omega (arith, length-take len xs, q, e, k) in drop-of-length-le (take len xs) past
+
+    -- and a loop that looks there for the first that passes
+    module _ {p : A → Bool} {j : ℕ} (i : Seeking p (take len xs) j) where
+      pub seek-hit : (d : A) → j < m → p (getD xs j d) ≡ true → IsFirst p (take len xs) (At j)
+      seek-hit d k t =
+          let room : j < length (take len xs) = omega (arith, length-take len xs, q, e) in
+          (at-getD p (take len xs) j d room ∙ rw (getD-take len xs j d (omega (arith, q, k))) t, i .none)
+
+      pub seek-miss : (d : A) → j < m → p (getD xs j d) ≡ false → Seeking p (take len xs) (j + 1)
+      seek-miss d k t =
+          let room : j < length (take len xs) = omega (arith, length-take len xs, q, e) in
+          let same : getD (take len xs) j d ≡ getD xs j d = getD-take len xs j d (omega (arith, q, k)) in
+          record { none = rw (add-one, take-suc (take len xs) j d room, same) (none-end p (take j (take len xs)) (getD xs j d) (i .none) t) }
+
+      pub seek-end : m ≤ j → IsFirst p (take len xs) Nowhere
+      seek-end k = rw (take-all j (take len xs) (omega (arith, length-take len xs, q, e, k))) at (i .none)
 
   -- and of the used part
   module _ (xs : List A) (n j : ℕ) (d : A) (k : n ≤ length xs) where

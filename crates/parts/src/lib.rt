@@ -2,6 +2,7 @@
 pub mod blank;
 pub mod holders;
 pub mod queue;
+pub mod search;
 pub mod state;
 pub mod used;
 pub mod wire;

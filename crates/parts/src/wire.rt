@@ -7,11 +7,11 @@ use model::WIRE_CAPACITY;
 use model::Wire;
 ghost use mathlib.Core.Path.{_≡_};
 ghost use Prim.Native.Nat.{_-_, _<_, _≤_};
-ghost use lib.ListN.{take, getD};
+ghost use lib.ListN.{getD};
 ghost use lib.Dec.{leb};
-ghost use Rattle.model.specs.Lists.{pick, any, removed};
+ghost use Rattle.model.specs.Lists.{pick, removed};
 ghost use Rattle.model.specs.States.{wireCapacity, blankPacket, wireOf, packets};
-ghost use Rattle.model.specs.Calls.{messageNames, names};
+ghost use Rattle.model.specs.Calls.{messageNames};
 ghost use Rattle.laws.specs.Shapes.{CanonicalWire};
 ghost use Rattle.parts.specs.Arrays.{cutAt};
 
@@ -62,7 +62,7 @@ pub fn packet_at(w: Wire, i: u8) -> Packet
 }
 
 // FREE names no client.
-fn message_names(m: Message, c: ClientId) -> bool
+pub(crate) fn message_names(m: Message, c: ClientId) -> bool
     ensures { λ r. ⌜ r ≡ messageNames c m ⌝ }
 {
     match m {
@@ -75,29 +75,4 @@ fn message_names(m: Message, c: ClientId) -> bool
         Message::Grant { client, mode: _ } => client.0 == c.0,
         Message::Release { client } => client.0 == c.0,
     }
-}
-
-fn names_any(a: [Packet; WIRE_CAPACITY], n: usize, c: ClientId) -> bool
-    requires { ⌜ n ≤ wireCapacity ⌝ }
-    ensures { λ r. ⌜ r ≡ any (names c) (take n a) ⌝ }
-{
-    let mut j: usize = 0;
-    while j < n {
-        let p = a[j];
-        let m = p.message;
-        if message_names(m, c) {
-            return true;
-        }
-        j += 1;
-    }
-    false
-}
-
-// A packet on the wire names the client.
-pub fn is_named(w: Wire, c: ClientId) -> bool
-    requires { ⌜ CanonicalWire w ⌝ }
-    ensures { λ r. ⌜ r ≡ any (names c) (packets w) ⌝ }
-{
-    let a = w.slots;
-    names_any(a, w.len as usize, c)
 }

@@ -10,6 +10,6 @@ pub use Rattle.model.specs.States.{machines}
 unfoldable pub use Rattle.model.specs.States.{waiters, packets}
 unfoldable pub use Rattle.model.specs.Reasons.{reasonIn}
 pub use Rattle.model.specs.WellFormed.{isClient}
-pub use Rattle.parts.specs.Scans.{all-more, in-use-more, in-use-end}
-pub use Rattle.reasons.specs.Finding.{Seeking, seeking, seek-hit, seek-miss, seek-end}
-pub use Rattle.reasons.specs.Searching.{isSought, Queueing, queueing, queue-hit, queue-miss, queue-end, itself, inside, onMachine, by-kind}
+pub use Rattle.laws.specs.Finding.{first-is}
+pub use Rattle.parts.specs.Scans.{all-more, in-use-more, in-use-end, Seeking, seeking, seek-hit, seek-miss, seek-end}
+pub use Rattle.reasons.specs.Searching.{Queueing, queueing, queue-hit, queue-miss, queue-end, itself, inside, onMachine, by-kind}

@@ -1,3 +1,2 @@
--- The law of loops that look for something, and what the search for a reason comes to.
-pub mod Finding
+-- What the search for a reason comes to.
 pub mod Searching

@@ -7,6 +7,7 @@ use native.Mathlib.Numerals.{add-one}
 use native.Mathlib.Omega.{arith}
 use lib.ListN.{drop}
 use Rattle.model.specs.declared.{ClientId.ClientId, Waiter.Waiter, AgentSlot.AgentSlot, Packet.Packet, LockState.LockState}
+use Rattle.model.specs.declared.{Found.Found, Found.the-variants.{Nowhere, At}}
 use Rattle.model.specs.declared.{Refusal.the-variants.{NotWaiting}, Reason.Reason, Reason.the-variants.{Requested, Granted, Rejected, Queued, Carried}}
 use Rattle.model.specs.declared.{ReasonAnswer.ReasonAnswer, ReasonAnswer.the-variants.{Because, Refused as NoReason}}
 use Rattle.model.specs.Lists.{pick, isAt, indices}
@@ -15,14 +16,7 @@ use Rattle.model.specs.WellFormed.{isClient}
 use Rattle.model.specs.Reasons.{requests, grants, grantRejected, queuedIn, isTrue, inQueues, reasonsIn, firstTrue}
 use Rattle.laws.specs.Lists.{at-map}
 use Rattle.laws.specs.Tests.{bool-cases}
-use Rattle.reasons.specs.declared.{Sought.Sought, Sought.the-variants.{Request, Grant, RejectedGrant}, Found.Found, Found.the-variants.{Nowhere, At}}
-use Rattle.reasons.specs.Finding.{seek}
-
--- a packet of the client, of this kind
-abbrev pub isSought : Sought → ClientId → Packet → Bool
-isSought Request c p = requests c p
-isSought Grant c p = grants c p
-isSought RejectedGrant c p = grantRejected c p
+use Rattle.laws.specs.Finding.{seek}
 
 -- how many are ahead of the client in a slot's queue, where it stands there
 abbrev pub aheadIn : ClientId → AgentSlot → Found

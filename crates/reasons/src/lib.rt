@@ -2,17 +2,16 @@
 ghost use mathlib.Core.Path.{_≡_};
 ghost use lib.ListN.{take};
 ghost use Rattle.model.specs.declared.Reason.the-variants.{Carried};
+ghost use Rattle.model.specs.Lists.{IsFirst};
 ghost use Rattle.model.specs.WellFormed.{isClient};
-ghost use Rattle.model.specs.Trace.{isGrantFor};
-ghost use Rattle.model.specs.Reasons.{isRequestOf, firstTrue, reasonsIn, isWaiting, reasonIn};
-ghost use Rattle.reasons.specs.Finding.{seek};
-ghost use Rattle.reasons.specs.Searching.{isSought, aheadIn, seekQueues, onMachine, itself, inside, queueReason};
+ghost use Rattle.model.specs.Reasons.{firstTrue, reasonsIn, isWaiting, reasonIn};
+ghost use Rattle.reasons.specs.Searching.{aheadIn, seekQueues, onMachine, itself, inside, queueReason};
 use model::AgentSlot;
 use model::ClientId;
+use model::Found;
 use model::LockState;
 use model::MACHINES;
 use model::MachineId;
-use model::Message;
 use model::Packet;
 use model::QUEUE_CAPACITY;
 use model::Reason;
@@ -21,21 +20,10 @@ use model::Refusal;
 use model::Status;
 use model::WIRE_CAPACITY;
 use model::Waiter;
+use parts::search::Sought;
+use parts::search::first_packet;
 use parts::state::status_at;
 use parts::used::used;
-
-// A packet of the client: its request, its grant, its grant that was rejected.
-enum Sought {
-    Request,
-    Grant,
-    RejectedGrant,
-}
-
-// What a search comes to.
-enum Found {
-    Nowhere,
-    At(u8),
-}
 
 fn is_waiting(st: Status) -> bool
     ensures { λ r. ⌜ r ≡ isWaiting st ⌝ }
@@ -47,77 +35,8 @@ fn is_waiting(st: Status) -> bool
     }
 }
 
-// A marked ACQUIRE is of a client that was granted before.
-fn is_request_of(c: ClientId, m: Message) -> bool
-    ensures { λ r. ⌜ r ≡ isRequestOf c m ⌝ }
-{
-    match m {
-        Message::Free => false,
-        Message::Acquire {
-            client,
-            mode: _,
-            granted,
-        } => { if granted { false } else { c.0 == client.0 } }
-        Message::Grant { client: _, mode: _ } => false,
-        Message::Release { client: _ } => false,
-    }
-}
-
-fn is_grant_for(c: ClientId, m: Message) -> bool
-    ensures { λ r. ⌜ r ≡ isGrantFor c m ⌝ }
-{
-    match m {
-        Message::Free => false,
-        Message::Acquire {
-            client: _,
-            mode: _,
-            granted: _,
-        } => false,
-        Message::Grant { client, mode: _ } => c.0 == client.0,
-        Message::Release { client: _ } => false,
-    }
-}
-
-fn is_sought(k: Sought, c: ClientId, p: Packet) -> bool
-    ensures { λ r. ⌜ r ≡ isSought k c p ⌝ }
-{
-    let m = p.message;
-    match k {
-        Sought::Request => is_request_of(c, m),
-        Sought::Grant => {
-            if p.rejected {
-                false
-            } else {
-                is_grant_for(c, m)
-            }
-        }
-        Sought::RejectedGrant => {
-            if p.rejected {
-                is_grant_for(c, m)
-            } else {
-                false
-            }
-        }
-    }
-}
-
-fn first_packet(a: [Packet; WIRE_CAPACITY], len: u8, k: Sought, c: ClientId) -> Found
-    ensures { λ r. ⌜ r ≡ seek (isSought k c) 0 (take len a) ⌝ }
-{
-    let n = used(len, WIRE_CAPACITY);
-    let mut j: usize = 0;
-    while j < n {
-        let p = a[j];
-        if is_sought(k, c, p) {
-            return Found::At(j as u8);
-        }
-        j += 1;
-    }
-    Found::Nowhere
-}
-
 fn first_waiter(a: [Waiter; QUEUE_CAPACITY], len: u8, c: ClientId) -> Found
-    ensures { λ r. ⌜ r ≡ seek (isClient c) 0 (take len a) ⌝ }
+    ensures { λ r. ⌜ IsFirst (isClient c) (take len a) r ⌝ }
 {
     let n = used(len, QUEUE_CAPACITY);
     let mut ahead: u8 = 0;

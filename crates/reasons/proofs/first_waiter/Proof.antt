@@ -1,5 +1,4 @@
-use Rattle.reasons.proofs.Base.{needs, _≡_, arith, eq-eqb, ne-eqb, take, _-_, isClient, Seeking, seeking, seek-hit, seek-miss, seek-end, in-use-more}
-use Rattle.reasons.proofs.Base.{in-use-end}
+use Rattle.reasons.proofs.Base.{needs, _≡_, arith, eq-eqb, ne-eqb, take, _-_, isClient, Seeking, seeking, seek-hit, seek-miss, seek-end}
 use Rattle.reasons.proofs.first_waiter.Statement.{statement}
 use Rattle.reasons.proofs.first_waiter.Tie as tie
 
@@ -9,13 +8,13 @@ first-waiter-spec = tie.close (tie.spec (λ len c a _ _ _ ahead j. Seeking (isCl
     (λ c. let b = c .before .before .before .before .before in
     let s = b .before .before .args in
     rw (b .loop .inv .1)
-    (seek-hit (b .loop .inv .0) (in-use-more (s .len) (s .t1) (b .before .used .ensures) (search needs) _ _ (search needs)) (eq-eqb _ _ (c .if1 .taken))))
+    (seek-hit (s .len) (s .t1) (b .before .used .ensures) (search needs) (b .loop .inv .0) _ (search needs) (eq-eqb _ _ (c .if1 .taken))))
     (search needs) (search needs) (search needs)
     (λ c. let b = c .before .before .before .before .before in
     let s = b .before .before .args in (
-      seek-miss (b .loop .inv .0) (in-use-more (s .len) (s .t1) (b .before .used .ensures) (search needs) _ _ (search needs)) (ne-eqb _ _ (c .if1 .left)),
+      seek-miss (s .len) (s .t1) (b .before .used .ensures) (search needs) (b .loop .inv .0) _ (search needs) (ne-eqb _ _ (c .if1 .left)),
       omega (arith, b .loop .inv .1),
     ))
     (λ c. let b = c .before in
     let s = b .before .before .args in
-    seek-end (b .loop .inv .0) (in-use-end (s .len) (s .t1) (b .before .used .ensures) (search needs) (b .loop .j) (search needs))))
+    seek-end (s .len) (s .t1) (b .before .used .ensures) (search needs) (b .loop .inv .0) (search needs)))

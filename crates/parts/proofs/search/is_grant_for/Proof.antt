@@ -1,6 +1,6 @@
-use Rattle.reasons.proofs.Base.{needs}
-use Rattle.reasons.proofs.is_grant_for.Statement.{statement}
-use Rattle.reasons.proofs.is_grant_for.Tie as tie
+use Rattle.parts.proofs.Base.{needs}
+use Rattle.parts.proofs.search.is_grant_for.Statement.{statement}
+use Rattle.parts.proofs.search.is_grant_for.Tie as tie
 
 pub is-grant-for-spec : {M : Type 1} → statement M
 is-grant-for-spec = tie.close (tie.spec (search needs) (search needs) (search needs) (search needs)

@@ -1,6 +1,6 @@
-use Rattle.reasons.proofs.Base.{needs}
-use Rattle.reasons.proofs.is_request_of.Statement.{statement}
-use Rattle.reasons.proofs.is_request_of.Tie as tie
+use Rattle.parts.proofs.Base.{needs}
+use Rattle.parts.proofs.search.is_request_of.Statement.{statement}
+use Rattle.parts.proofs.search.is_request_of.Tie as tie
 
 pub is-request-of-spec : {M : Type 1} → statement M
 is-request-of-spec = tie.close (tie.spec (search needs) (search needs) (search needs) (search needs)
