@@ -49,3 +49,5 @@ pub mod Handlings
 -- ---- what a cluster prefers, and writers first
 pub mod Preferences
 pub mod WritersFirst
+-- ---- which packet an acquire is refused for
+pub mod Naming

@@ -15,6 +15,7 @@ pub use Rattle.model.specs.declared.{Refusal.the-variants.{PreferenceRange}}
 pub use Rattle.model.specs.declared.{Answer.Answer, Answer.the-variants.{Accepted, Refused}}
 pub use Rattle.model.specs.declared.{Reason.Reason, Reason.the-variants.{Requested, Granted, Rejected, Queued, Carried}}
 pub use Rattle.model.specs.declared.{ReasonAnswer.ReasonAnswer, ReasonAnswer.the-variants.{Because, Refused as NoReason}}
+pub use Rattle.model.specs.declared.{Found.Found, Found.the-variants.{Nowhere, At}}
 pub use Rattle.model.specs.declared.{Handling.Handling, Handling.the-variants.{None, NoAgent, NotHolder, Taken}}
 pub use Rattle.model.specs.declared.{Stepped.Stepped, Outcome.Outcome, Drained.Drained}
 -- ---- the library
@@ -29,7 +30,7 @@ pub use lib.Seq.{set-getD, getD-set-same, getD-set-other}
 pub use lib.Dec.{eqb, leb, ltb}
 pub use borrow.Author.Tests.{eqb-true, eqb-false, eq-eqb, ne-eqb, ltb-true, ltb-false, lt-ltb, leb-true, leb-false, le-leb, lt-leb}
 -- ---- the model and its laws
-pub use Rattle.model.specs.Lists.{pick, any, all}
+pub use Rattle.model.specs.Lists.{pick, any, all, IsFirst}
 unfoldable pub use Rattle.model.specs.Lists.{count, isAt, indices, removed}
 pub use Rattle.model.specs.States.{locks, machines, tasks, clients, queueCapacity, wireCapacity, clientOf, machineOf, modeOf, isShared, noHolders, newAgent}
 pub use Rattle.model.specs.States.{someAgent, agentOn, listed, idle, statusOf, plain, carrying, resent, unowned, lockIn, preferences, prefersWriters}

@@ -1,15 +1,18 @@
--- The question for the reason at worked states: the number and the values of each answer written by hand, one theorem by computation. It stands on the
--- model alone, so that a fault in a definition shows here as a wrong figure. Clients 0/0, 0/1, 1/0 and 2/0 are 0, 1, 4 and 8.
+-- The question for the reason at worked states: the number and the values of each answer written by hand, one theorem by computation; and the search of a wire
+-- for a client, in the same way. It stands on the model alone, so that a fault in a definition shows here as a wrong figure. Clients 0/0, 0/1, 1/0 and 2/0
+-- are 0, 1, 4 and 8.
 use mathlib.Core.Path.{_≡_, refl}
 use mathlib.Core.List.{List, [], _∷_}
 use Prim.Native.Nat.{ℕ}
 use lib.ListN.{set}
-use Rattle.model.specs.Lists.{padded, isAt, indices}
+use Rattle.model.specs.Lists.{padded, isAt, IsFirst, indices}
 use Rattle.theorems.specs.Names.{false, Shared, AgentSlot, ToDecider, Free, Acquire, Grant, Release, Packet, LockState, ReasonAnswer, carrying, plain}
+use Rattle.theorems.specs.Names.{Found, Nowhere, At}
 use Rattle.model.specs.States.{queueOf, waiters, someAgent, noAgent, blankPacket, wireOf, packets, freshLock}
 use Rattle.model.specs.WellFormed.{shaped, isBlankWaiter, distinct, queueFormed, agentFormed, isBlankAgent, slotFormed, messageFormed, packetFormed}
 use Rattle.model.specs.WellFormed.{isBlankPacket, wireFormed, lockFormed, wellFormed}
 use Rattle.model.specs.Refusals.{first}
+use Rattle.model.specs.Calls.{names}
 use Rattle.model.specs.Reasons.{isTrue, inQueues, reasonsIn, firstTrue, reasonIn, reasonUnless, reason, reasonNumber, reasonValues}
 use Rattle.theorems.specs.Scenarios.{machine, client, on, owned, queue, agent, returning, nowhere, others, lock, with0, d1, d1-held, d2, d6}
 use Rattle.theorems.specs.Scenarios.{waits, waiting4, d8-queued, f-unmarked, f-rejected, f-requeued, grantTo1, markedTo0}
@@ -128,3 +131,36 @@ questions-answered lowest-packet = refl
 questions-answered marked-none = refl
 questions-answered other-none = refl
 questions-answered nothing = refl
+
+-- ---- on this wire, the first packet that names this client is found there
+pub data Search : Type 0 where
+  finds : List Packet → ℕ → Found → Search
+
+abbrev pub Comes : Search → Type 0
+Comes (finds ps c f) = IsFirst (names (client c)) ps f
+
+-- a FREE, in whose agent's queue 1/0 stands, and a request of 2/0
+abbrev pub free-first : List Packet
+free-first = freeing front ∷ asked8 ∷ []
+
+pub data Wire : Type 0 where
+  D7 behind-others free-of-0 free-of-4 behind-free empty : Wire
+
+abbrev pub wires : Wire → Search
+-- the marked ACQUIRE of 1/0, with its RELEASE behind it
+wires D7 = finds (packets (d6 .wire)) 4 (At 0)
+wires behind-others = finds (asked8 ∷ freeing front ∷ grantTo1 ∷ markedTo0 ∷ asked4 ∷ []) 4 (At 2)
+-- FREE names nobody: not 0/0, and not who stands in that queue
+wires free-of-0 = finds free-first 0 Nowhere
+wires free-of-4 = finds free-first 4 Nowhere
+wires behind-free = finds free-first 8 (At 1)
+wires empty = finds [] 0 Nowhere
+
+pub wires-searched : (w : Wire) → Comes (wires w)
+unfolding isAt padded blankPacket wireOf packets
+wires-searched D7 = (refl, refl)
+wires-searched behind-others = (refl, refl)
+wires-searched free-of-0 = refl
+wires-searched free-of-4 = refl
+wires-searched behind-free = (refl, refl)
+wires-searched empty = refl

@@ -1,5 +1,5 @@
 -- What the contracts rule out. An engine is what a program answers to each call on each cluster; it meets the contracts where it equals
--- the model. None of the following behaviours meets them, by the scenario that document 01 names for it.
+-- the model. None of the following behaviours meets them, by the scenario that document 01 names for it. Likewise of drains, and of searches of a wire.
 use mathlib.Core.Path.{_≡_, refl, sym, ap, _∙_}
 use mathlib.Core.Bool.{not, true≢false}
 use mathlib.Core.List.{List, [], _∷_}
@@ -7,16 +7,21 @@ use Prim.Native.Nat.{ℕ, zero, suc}
 use native.Mathlib.Omega.{arith}
 use Rattle.theorems.specs.Names.{LockId, MachineId, Mode, Shared, Unowned, Owned, AgentSlot, Cluster, Call, DeliverCall, LockRange, Refusal}
 use Rattle.theorems.specs.Names.{Answer, Accepted, Refused, Outcome, Malformed, LockState, Drained, locks, number}
-use lib.ListN.{length, getD}
+use Rattle.theorems.specs.Names.{ClientId, Packet, Found, Nowhere, At, any, IsFirst, isAt, isFree, names, true, false}
+use lib.ListN.{length, drop, getD}
 use lib.Dec.{leb}
-use Rattle.model.specs.States.{noAgent, wireOf, lockIn, freshLock}
+use Rattle.model.specs.Lists.{padded}
+use Rattle.model.specs.States.{noAgent, wireOf, packets, lockIn, freshLock}
 use Rattle.model.specs.WellFormed.{wellFormed}
 use Rattle.model.specs.Refusals.{_when_, first}
 use Rattle.model.specs.Calls.{perform, lockOf, run}
 use Rattle.model.specs.Drain.{allowance, Next, none, some, nextCall, Quiescent, Drainage, drainage, drainCalls, drainRefused, drainEnded, drainUnless, drain}
+use Rattle.laws.specs.Finding.{first-is}
 use Rattle.laws.specs.CallSteps.{perform-elsewhere}
 use Rattle.laws.specs.Next.{NextIs, delivers-first, releases-holder, next-is}
+use Rattle.theorems.specs.Questions.{free-first, D7, free-of-0, wires-searched}
 use Rattle.theorems.specs.Scenarios.{D1, D1-drained, D4, D10, scenarios-hold, machine, on, acquires0, delivers0, lock8, with0, d1, d3-rejected, d4}
+use Rattle.theorems.specs.Scenarios.{client, d6}
 
 abbrev pub Engine : Type 0
 Engine = Call → Cluster → Outcome
@@ -165,3 +170,31 @@ drain-honest x l = by-tests (first ((Malformed when not (wellFormed x)) ∷ (Loc
 -- so an invented step count, an early stop and a touched neighbour are each ruled out
 pub drainers-honest : (f : Drainer) → MeetsDrain f → (x : Cluster) (l : LockId) → Honest x l (f x l)
 drainers-honest f m x l = rw (m x l) (drain-honest x l)
+
+-- ---- searches: what a program answers to each wire and client
+abbrev pub Searcher : Type 0
+Searcher = List Packet → ClientId → Found
+
+abbrev pub MeetsSearch : Searcher → Type 0
+MeetsSearch f = (ps : List Packet) (c : ClientId) → IsFirst (names c) ps (f ps c)
+
+found-on : (f : Searcher) → MeetsSearch f → (ps : List Packet) (c : ClientId) (g : Found) → IsFirst (names c) ps g → f ps c ≡ g
+found-on f m ps c g h = first-is (names c) ps _ (m ps c) ∙ sym (first-is (names c) ps g h)
+
+-- one that gives the last packet that names the client; on D7's wire another stands behind the one that is found
+pub finds-last : (f : Searcher) → MeetsSearch f → ((ps : List Packet) (c : ClientId) (i : ℕ) → f ps c ≡ At i → any (names c) (drop (suc i) ps) ≡ false) → ⊥
+unfolding packets wireOf padded
+finds-last f m h = true≢false (h (packets (d6 .wire)) (client 4) 0 (found-on f m _ _ _ (wires-searched D7)))
+
+-- one that gives the index behind it
+pub finds-next : (f : Searcher) → MeetsSearch f → ((ps : List Packet) (c : ClientId) (i : ℕ) → IsFirst (names c) ps (At i) → f ps c ≡ At (suc i)) → ⊥
+finds-next f m h =
+    let clash : At 0 ≡ At 1 = sym (found-on f m _ _ _ (wires-searched D7)) ∙ h (packets (d6 .wire)) (client 4) 0 (wires-searched D7) in
+    let z : _≡_ {A = ℕ} 0 1 = cc in
+    omega arith
+
+-- one that takes a FREE to name client 0
+pub finds-free : (f : Searcher) → MeetsSearch f
+    → ((ps : List Packet) (i : ℕ) → isAt (λ (p : Packet). isFree (p .message)) ps i ≡ true → f ps (client 0) ≡ Nowhere → ⊥) → ⊥
+unfolding isAt
+finds-free f m h = h free-first 0 refl (found-on f m _ _ _ (wires-searched free-of-0))

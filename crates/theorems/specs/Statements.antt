@@ -1,6 +1,6 @@
--- What is proved, in Theorems, Drains, Listings, Counts, Reasons, FirstCome, Handlings, Preferences and WritersFirst: of the numbers of answers, and of every
--- list of calls on a fresh cluster, made with any preference n, as given: one above 1 is refused, and the cluster beside that prefers readers. Past the last, a
--- lock reads as fresh and a client as idle.
+-- What is proved, in Theorems, Drains, Listings, Counts, Reasons, FirstCome, Handlings, Preferences, WritersFirst and Naming: of the numbers of answers, and
+-- of every list of calls on a fresh cluster, made with any preference n, as given: one above 1 is refused, and the cluster beside that prefers readers. Past
+-- the last, a lock reads as fresh and a client as idle.
 use Rattle.model.specs.Drain.{allowance, Quiescent, drainCalls, drain}
 use Rattle.model.specs.Trace.{isAccepted, grantsIn}
 use Rattle.model.specs.Refusals.{first}
@@ -16,6 +16,7 @@ use Rattle.theorems.specs.Names.{isTrue, reasonIn, reason, reasonNumber,
 use Rattle.theorems.specs.Names.{removed, grantOf, acquire, release, deliver, preferences, prefersWriters, freshWith, writerIn, Shared, ToDecider}
 use Rattle.theorems.specs.Names.{Message, Free, Acquire, Release, Handling, None, NoAgent, NotHolder, Taken, sentBack, lists, handlingsOf, lastTold}
 use Rattle.theorems.specs.Names.{wireOf, Site, siteOf, mayShare, mayJoin, noting, grantsFirst, grantsWith, passesOn, newAgent, changed}
+use Rattle.theorems.specs.Names.{Found, Nowhere, At, any, IsFirst}
 use lib.ListN.{take}
 
 -- Different answers have different numbers, and 0 is the number of the accepted alone.
@@ -295,3 +296,23 @@ abbrev pub WritersFirst : Cluster → Type 0
 WritersFirst x =
     x .preference ≡ 1 → (l : LockId) (k : MachineId) → agentOn (lockIn x l) k .present ≡ true → writerIn (agentOn (lockIn x l) k .agent) ≡ true
     → NotPassed x l k
+
+-- Request 6 of document 02: the packet for which an acquire is refused with 6. f is what a search of the lock's wire for the client comes to: the first packet
+-- that names it, or nowhere.
+abbrev pub isFound : Found → Bool
+isFound Nowhere = false
+isFound (At i) = true
+
+pub record NamedBy (x : Cluster) (l : LockId) (k : MachineId) (t : TaskId) (f : Found) : Type 0 where
+  -- It can come to nothing else.
+  pub alone : (g : Found) → IsFirst (names (clientOf k t)) (packets (lockIn x l .wire)) g → g ≡ f
+  -- That it finds one is refusal 6's cause, as it stands among the tests.
+  pub cause : any (names (clientOf k t)) (packets (lockIn x l .wire)) ≡ isFound f
+  -- So an acquire that is answered 6, in any mode, has its packet, and to an accepted one no packet stands in the way.
+  pub refused : (m : ℕ) → number (acquire x l k t m .answer) ≡ 6 → (i : ℕ) × (f ≡ At i)
+  pub accepted : (m : ℕ) → number (acquire x l k t m .answer) ≡ 0 → f ≡ Nowhere
+
+-- On any cluster, made by hand or not.
+abbrev pub StillNamedBy : Cluster → Type 0
+StillNamedBy x =
+    (l : LockId) (k : MachineId) (t : TaskId) (f : Found) → IsFirst (names (clientOf k t)) (packets (lockIn x l .wire)) f → NamedBy x l k t f
