@@ -4,6 +4,7 @@
 use std::hint::black_box;
 use std::time::Instant;
 
+use reference::answer::answer_number;
 use reference::digest::Digest;
 use reference::generator::Generator;
 use reference::model::{ClientId, ClientStatus, Cluster, LockId, MachineId, TaskId};
@@ -20,6 +21,7 @@ extern "C" {
 const ROUNDS: usize = 9;
 const DRAINS: u32 = 2_000;
 const QUESTIONS: u32 = 2_000;
+const REFUSED: usize = 8_000;
 /// The sizes of the engine's states, which its functions take and give by value.
 const LOCK_BYTES: usize = 2_192;
 const CLUSTER_BYTES: usize = 17_536;
@@ -66,6 +68,41 @@ fn transcript(seed: u64, limit: usize, locks: u64) -> Vec<u8> {
         }
         bytes.extend(more);
     }
+}
+
+/// One client after the other acquires lock 0, shared, is granted and releases, each behind the packets that the ones before left on the wire.
+fn visits(clients: u8) -> Vec<Record> {
+    let lock = LockId(0);
+    let visit = |client: u8| {
+        let (machine, task, place) = (MachineId(client / 4), TaskId(client % 4), 1 + 2 * client);
+        let arrives = Record::Deliver(lock, place);
+        [Record::Acquire(lock, machine, task, 3), arrives, arrives, Record::Release(lock, machine, task)]
+    };
+    (0..clients).flat_map(visit).collect()
+}
+
+/// Document 01's D13, and its FREE delivered: a wire of 33 packets, of which the first names client 0/0, which is idle.
+fn full_wire() -> Vec<Record> {
+    let (lock, machine, task) = (LockId(0), MachineId(0), TaskId(0));
+    let first = Record::Deliver(lock, 0);
+    let mut records = vec![Record::Acquire(lock, machine, task, 3), first, first, Record::Release(lock, machine, task)];
+    records.extend(visits(16));
+    records.push(first);
+    records
+}
+
+/// Acquires of client 0/0 on that wire, each refused with 6: inside a run, and by public calls. What leads to the wire is taken off.
+fn refusals() -> [(f64, f64); 2] {
+    let asks = Record::Acquire(LockId(0), MachineId(0), TaskId(0), 3);
+    let begun: Vec<u8> = full_wire().iter().flat_map(encode).collect();
+    let mut bytes = begun.clone();
+    (0..REFUSED).for_each(|_| bytes.extend(encode(&asks)));
+    let (mut cluster, _) = checked(&bytes);
+    assert_eq!((cluster.locks[0].wire.len(), answer_number(&asks.run(&mut cluster))), (33, 6));
+    let less = |whole: (f64, f64), part: (f64, f64)| (whole.0 - part.0, whole.1 - part.1);
+    let runs = less(race(|| engine_runs(&bytes, 1), || reference_runs(&bytes, 1)), race(|| engine_runs(&begun, 1), || reference_runs(&begun, 1)));
+    let calls = less(race(|| engine_calls(&bytes), || reference_calls(&bytes)), race(|| engine_calls(&begun), || reference_calls(&begun)));
+    [runs, calls]
 }
 
 /// The best time of each of two jobs, in nanoseconds, over rounds in which they take turns.
@@ -183,6 +220,9 @@ fn main() {
     let runs = race(|| engine_runs(&full, 1), || reference_runs(&full, 1));
     row("a full-size transcript", runs, 1.0);
     row("a question for a reason", questions_of(&busy, &cluster), f64::from(QUESTIONS));
+    let [runs, calls] = refusals();
+    row("an acquire refused with 6 inside a run, by the first of 33 packets", runs, REFUSED as f64);
+    row("the same by a public call", calls, REFUSED as f64);
     let drains = drains_of(&busy, &cluster);
     let steps = cluster.drain(LockId(0)).expect("a drain ends").count;
     row(&format!("a drain of {steps} steps"), drains, f64::from(DRAINS));
