@@ -7,6 +7,7 @@ LOCKS, MACHINES, CLIENTS, WIRE = 8, 4, 16, 33
 ANSWERS = {"acquire": (0, 1, 2, 3, 4, 5, 6, 9, 10, 11), "release": (0, 1, 2, 3, 7, 9, 10, 11), "deliver": (0, 1, 8, 9, 10, 11)}
 ENDS = {"end": 0, "bad record": 12, "too long": 13, "bad preference": 16}
 READERS, WRITERS, MALFORMED = 0, 1, 11  # the preferences, and the answer of a cluster made by hand that has another
+STILL_NAMED = 6  # the answer of an acquire while a packet names its client
 HANDLINGS = "no agent", "not a holder", "taken"
 
 
@@ -41,14 +42,14 @@ BYTE, CLIENT, MODE, FLAG = number(255), number(CLIENTS - 1), one_of(2, 3), one_o
 HANDLING = or_null(one_of(*HANDLINGS))
 
 
-def record(kind, *fields):
-    """A record's line: its number and kind, its bytes, the answer, the handling, the preference, the state and what is counted in it."""
-    return {"n": number(65535), "kind": one_of(kind), **{field: BYTE for field in fields}, "answer": one_of(*ANSWERS[kind]), "handling": HANDLING,
+def record(kind, *fields, **found):
+    """A record's line: its number and kind, its bytes, the answer and what was found, the handling, the preference, the state and what is counted in it."""
+    return {"n": number(65535), "kind": one_of(kind), **{field: BYTE for field in fields}, "answer": one_of(*ANSWERS[kind]), **found, "handling": HANDLING,
             "preference": BYTE, "state": or_null(thing("state")), "counts": or_null(thing("counts"))}
 
 
 FORMS = {
-    "acquire": record("acquire", "lock", "machine", "task", "mode"),
+    "acquire": record("acquire", "lock", "machine", "task", "mode", named=or_null(number(WIRE - 1))),
     "release": record("release", "lock", "machine", "task"),
     "deliver": record("deliver", "lock", "index"),
     "counts": {"agents": number(MACHINES + WIRE), "marked": number(WIRE)},
@@ -121,6 +122,18 @@ def whole_record(line):
             and (line["answer"] == MALFORMED or prefers(line["preference"], line["state"])))
 
 
+def first_naming(state, client):
+    """The index of the first packet on the wire that names the client, or None."""
+    return next((index for index, packet in enumerate(state["wire"]) if packet["client"] == client), None)
+
+
+def whole_acquire(line):
+    """Refused with 6, and only then, it has the packet for which it was."""
+    if line["answer"] != STILL_NAMED:
+        return whole_record(line) and line["named"] is None
+    return whole_record(line) and line["named"] is not None and line["named"] == first_naming(line["state"], 4 * line["machine"] + line["task"])
+
+
 def whole_end(end):
     """A drain of each lock; another preference than the two refuses them all, and beside a bad one the cluster is fresh, for readers."""
     drains = end["drains"]
@@ -130,7 +143,7 @@ def whole_end(end):
 
 
 WHOLE = {
-    "acquire": whole_record, "release": whole_record, "deliver": whole_record, "packet": whole_packet, "reason": whole_reason, "client": whole_client,
+    "acquire": whole_acquire, "release": whole_record, "deliver": whole_record, "packet": whole_packet, "reason": whole_reason, "client": whole_client,
     "state": whole_state,
     "decider": lambda decider: (decider["mode"] == 0) == (decider["machine"] is None),
     "agent": lambda agent: agent["holders"] == sorted(set(agent["holders"])),

@@ -20,11 +20,11 @@ def not_idle(step):
 
 
 def still_named(step):
-    """Which packets are of the client, by index."""
-    named = [f"index {index}, {packet(one)}" for index, one in enumerate(step.after["wire"]) if one["client"] == step.client]
-    step.need(named)
-    which = "a packet on the wire is" if len(named) == 1 else f"{len(named)} packets on the wire are"
-    return f"The client is idle, but {which} still of it: {'; '.join(named)}."
+    """Which packet the acquire was refused for, and which others are of the client, by index."""
+    first, wire = step.line["named"], step.after["wire"]
+    behind = [f"index {index}, {packet(one)}" for index, one in enumerate(wire) if index > first and one["client"] == step.client]
+    others = f" Behind it: {'; '.join(behind)}." if behind else ""
+    return f"The client is idle, but the packet at index {first} is still of it: {packet(wire[first])}.{others}"
 
 
 def not_holding(step):

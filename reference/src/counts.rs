@@ -111,7 +111,7 @@ pub(crate) fn check(holds: bool, words: impl FnOnce() -> String) -> Result<(), S
     }
 }
 
-fn number_of(count: usize, thing: &str) -> String {
+pub(crate) fn number_of(count: usize, thing: &str) -> String {
     let ending = if count == 1 { "" } else { "s" };
     format!("{count} {thing}{ending}")
 }

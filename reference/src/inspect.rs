@@ -50,9 +50,24 @@ fn record_line(
     let state = cluster.locks.get(record.lock().index());
     let counts = state.map(Counts::of);
     let (state, counts) = (OrNull(state.map(Json)), OrNull(counts.as_ref().map(Json)));
-    write!(out, r#"{{"n":{number},{call},"answer":{answer},"#)?;
+    let named = named_field(record, &outcome, cluster);
+    write!(out, r#"{{"n":{number},{call},"answer":{answer},{named}"#)?;
     write!(out, r#""handling":{handling},"preference":{preference},"#)?;
     writeln!(out, r#""state":{state},"counts":{counts}}}"#)
+}
+
+/// The field that an acquire alone has: which packet it was refused for with 6.
+fn named_field(record: &Record, outcome: &StepOutcome, cluster: &Cluster) -> String {
+    let Record::Acquire(lock, machine, task, _) = *record else {
+        return String::new();
+    };
+    let searched = match outcome {
+        // A refused step leaves the wire as it was searched.
+        Err(Refusal::ClientOnWire) => cluster.lock_and_client(lock, machine, task).ok(),
+        _ => None,
+    };
+    let index = searched.and_then(|(state, client)| state.first_naming(client));
+    format!(r#""named":{},"#, OrNull(index))
 }
 
 fn end_line(outcome: TranscriptOutcome, cluster: &Cluster, out: &mut dyn Write) -> io::Result<()> {

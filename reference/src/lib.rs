@@ -23,6 +23,7 @@ pub mod random_transcripts;
 pub mod reasons;
 pub mod report;
 mod requests;
+pub mod still_named;
 pub mod transcript;
 mod well_formed;
 

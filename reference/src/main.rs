@@ -8,7 +8,7 @@ use reference::random_states::{random_state, FIRST_STATE, LAST_STATE};
 use reference::random_transcripts::{
     long_transcript_bytes, random_transcript, transcript_bytes, FIRST_TRANSCRIPT, LAST_TRANSCRIPT,
 };
-use reference::report::{Report, KINDS};
+use reference::report::{Report, Tally, KINDS};
 use reference::transcript::{listing, TRANSCRIPT_LIMIT};
 use std::borrow::Cow;
 use std::ffi::OsString;
@@ -148,34 +148,47 @@ fn counts(out: &mut dyn Write) -> io::Result<()> {
         let mut nowhere = io::sink();
         let mut report = Report::new(&mut nowhere, false);
         part.run_all(&mut report)?;
-        let tally = report.tally;
-        for (kind, answers) in KINDS.iter().zip(tally.answers) {
-            writeln!(out, "{name} {kind} {answers:?}")?;
-        }
-        write!(out, "{name} reasons")?;
-        for (kind, given) in (1..).zip(tally.reasons) {
-            write!(out, " {kind} {given}")?;
-        }
-        writeln!(out)?;
-        writeln!(out, "{name} several reasons {}", tally.several_reasons)?;
-        writeln!(out, "{name} drain steps {}", tally.drain_steps)?;
-        writeln!(out, "{name} longest drain {}", tally.longest_drain)?;
-        writeln!(out, "{name} longest wire {}", tally.longest_wire)?;
-        writeln!(out, "{name} incarnation wraps {}", tally.incarnation_wraps)?;
-        writeln!(out, "{name} malformed states {}", tally.malformed_states)?;
-        write!(out, "{name} tested states {} ", tally.tested_states)?;
-        write!(out, "most marked {} ", tally.most_marked)?;
-        writeln!(out, "most packets {}", tally.most_packets)?;
-        writeln!(out, "{name} tested waits {}", tally.tested_waits)?;
-        let (tested, kept) = (tally.tested_installations, tally.readers_kept);
-        writeln!(
-            out,
-            "{name} tested installations {tested} readers kept {kept}"
-        )?;
-        for kind in handling_calls {
-            writeln!(out, "{name} {}", tally.handled_line(kind))?;
-        }
-        writeln!(out, "{name} {}", tally.behind_writer_line())?;
+        met_lines(name, &report.tally, out)?;
+        tested_lines(name, &report.tally, handling_calls, out)?;
     }
     Ok(())
+}
+
+fn met_lines(name: &str, tally: &Tally, out: &mut dyn Write) -> io::Result<()> {
+    for (kind, answers) in KINDS.iter().zip(tally.answers) {
+        writeln!(out, "{name} {kind} {answers:?}")?;
+    }
+    write!(out, "{name} reasons")?;
+    for (kind, given) in (1..).zip(tally.reasons) {
+        write!(out, " {kind} {given}")?;
+    }
+    writeln!(out)?;
+    writeln!(out, "{name} several reasons {}", tally.several_reasons)?;
+    writeln!(out, "{name} drain steps {}", tally.drain_steps)?;
+    writeln!(out, "{name} longest drain {}", tally.longest_drain)?;
+    writeln!(out, "{name} longest wire {}", tally.longest_wire)?;
+    writeln!(out, "{name} incarnation wraps {}", tally.incarnation_wraps)?;
+    writeln!(out, "{name} malformed states {}", tally.malformed_states)
+}
+
+fn tested_lines(
+    name: &str,
+    tally: &Tally,
+    handling_calls: [u8; 2],
+    out: &mut dyn Write,
+) -> io::Result<()> {
+    write!(out, "{name} tested states {} ", tally.tested_states)?;
+    write!(out, "most marked {} ", tally.most_marked)?;
+    writeln!(out, "most packets {}", tally.most_packets)?;
+    writeln!(out, "{name} tested waits {}", tally.tested_waits)?;
+    let (tested, kept) = (tally.tested_installations, tally.readers_kept);
+    writeln!(
+        out,
+        "{name} tested installations {tested} readers kept {kept}"
+    )?;
+    for kind in handling_calls {
+        writeln!(out, "{name} {}", tally.handled_line(kind))?;
+    }
+    writeln!(out, "{name} {}", tally.behind_writer_line())?;
+    writeln!(out, "{name} {}", tally.still_named_line())
 }

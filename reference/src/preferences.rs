@@ -8,7 +8,6 @@ use crate::model::{
     Address, Agent, ClientId, Cluster, LockId, LockState, MachineId, Message, Mode, Packet,
     Preference, TaskId, Waiter,
 };
-use crate::requests::checked_client;
 
 /// A reader's unmarked request to an agent with a writer in its queue, as things are before its step.
 #[derive(Clone, Debug, PartialEq, Eq)]
@@ -30,8 +29,7 @@ impl BehindWriter {
         task: TaskId,
         mode: u8,
     ) -> Option<Self> {
-        let state = cluster.locks.get(lock.index())?;
-        let client = checked_client(machine, task).ok()?;
+        let (state, client) = cluster.lock_and_client(lock, machine, task).ok()?;
         if Mode::from_number(mode) != Some(Mode::Shared) {
             return None;
         }

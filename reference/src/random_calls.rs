@@ -228,6 +228,19 @@ impl Call {
     pub fn ask_reason(&self, cluster: &Cluster) -> Result<Reason, Refusal> {
         cluster.reason(self.lock, self.machine, self.task)
     }
+
+    /// Whether a packet names the chosen client, and the index of the first that does; no number where an argument is out of range.
+    pub fn named_numbers(&self, cluster: &Cluster) -> Vec<u8> {
+        let asked = cluster.lock_and_client(self.lock, self.machine, self.task);
+        let Ok((state, client)) = asked else {
+            return vec![];
+        };
+        match state.first_naming(client) {
+            // A wire has 33 packets at most, by hand too.
+            Some(index) => vec![1, index as u8],
+            None => vec![0],
+        }
+    }
 }
 
 impl fmt::Display for Call {

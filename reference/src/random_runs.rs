@@ -129,7 +129,7 @@ impl Run {
         )
     }
 
-    /// Perhaps a drain, then always one call and one ask.
+    /// Perhaps a drain, then always one call, one ask and one search.
     fn one_step(&mut self, report: &mut Report) -> io::Result<()> {
         let outputs = self.generator.eight();
         let call = self.profile.choose_call(self.seed, &outputs, &self.cluster);
@@ -146,7 +146,10 @@ impl Run {
         report.tally.count(call.kind, given.answer);
         self.accepted += u64::from(outcome.is_ok());
         self.digest_given(call.kind, given);
-        let asked = self.ask_reason(call, report);
+        let asked = [
+            ("reason", self.ask_reason(call, report)),
+            ("named", self.search_wire(call)),
+        ];
         if self.step.is_multiple_of(CLUSTER_STEPS) {
             self.digest.cluster(&self.cluster);
         }
@@ -169,6 +172,13 @@ impl Run {
             report.tally.count_reason(reason, all.len());
         }
         let numbers = reason_numbers(&outcome);
+        self.digest.bytes(&numbers);
+        numbers
+    }
+
+    /// Searches the wire for the chosen client; these numbers go the same way.
+    fn search_wire(&mut self, call: Call) -> Vec<u8> {
+        let numbers = call.named_numbers(&self.cluster);
         self.digest.bytes(&numbers);
         numbers
     }
@@ -254,7 +264,8 @@ impl Run {
         let mut tested = tally.test_installation(incoming.installation, state);
         tested = tested
             .and_then(|()| tally.test_handling(call.kind, incoming.arrival, handling, state))
-            .and_then(|()| tally.test_behind_writer(incoming.behind_writer, state));
+            .and_then(|()| tally.test_behind_writer(incoming.behind_writer, state))
+            .and_then(|()| tally.test_still_named(incoming.still_named, outcome));
         if self.is_tested {
             let preference = self.cluster.preference;
             tested = tested.and_then(|()| tally.test_call(call.kind, outcome, state, preference));
@@ -269,13 +280,13 @@ impl Run {
         tested.map_err(|broken: String| io::Error::other(line(broken)))
     }
 
-    /// The line of a drain, which asks nothing, ends before the reason.
+    /// What was asked stands at the end, each with a word before its numbers; a drain asks nothing.
     fn step_line(
         &self,
         call: Call,
         given: Given,
         cluster: &Cluster,
-        asked: &[u8],
+        asked: &[(&str, Vec<u8>)],
         report: &mut Report,
     ) -> io::Result<()> {
         if !report.each_step {
@@ -290,11 +301,11 @@ impl Run {
         let (answer, handling, count) = (given.answer, given.handling.number(), given.count);
         write!(out, "answer {answer} handling {handling} ")?;
         write!(out, "count {count} digest {digest} cluster {alone}")?;
-        if !asked.is_empty() {
-            write!(out, " reason")?;
-        }
-        for number in asked {
-            write!(out, " {number}")?;
+        for (word, numbers) in asked {
+            write!(out, " {word}")?;
+            for number in numbers {
+                write!(out, " {number}")?;
+            }
         }
         writeln!(out)
     }

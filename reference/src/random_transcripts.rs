@@ -61,6 +61,7 @@ fn count_answers(seed: u64, bytes: &[u8], report: &mut Report) -> io::Result<()>
             let result = result
                 .and_then(|()| tally.test_handling(kind, incoming.arrival, handling, state))
                 .and_then(|()| tally.test_behind_writer(incoming.behind_writer, state))
+                .and_then(|()| tally.test_still_named(incoming.still_named, &outcome))
                 .and_then(|()| tally.test_call(kind, &outcome, state, cluster.preference));
             tested = result.map_err(|broken| {
                 let place = format!("transcript {seed} record {number} lock {}", lock.0);

@@ -5,7 +5,6 @@ use crate::model::{
     Agent, ClientId, ClientStatus, Cluster, LockId, LockState, MachineId, Message, Packet, TaskId,
     CLIENTS,
 };
-use crate::requests::checked_client;
 
 /// Where the request of a waiting client is; the kinds stand in the order of document 02.
 #[derive(Clone, Copy, Debug, PartialEq, Eq)]
@@ -64,9 +63,8 @@ impl Cluster {
         task: TaskId,
     ) -> Result<Reason, Refusal> {
         self.check_well_formed()?;
-        let state = self.locks.get(lock.index());
-        let state = state.ok_or(Refusal::LockOutOfRange)?;
-        state.reason(checked_client(machine, task)?)
+        let (state, client) = self.lock_and_client(lock, machine, task)?;
+        state.reason(client)
     }
 }
 

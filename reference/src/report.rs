@@ -7,6 +7,7 @@ use crate::installations::Installation;
 use crate::model::{Cluster, LockId, LockState, MachineId, Preference, TaskId, WIRE_CAPACITY};
 use crate::preferences::BehindWriter;
 use crate::reasons::{Reason, REASON_KINDS};
+use crate::still_named::StillNamed;
 use std::io::Write;
 
 /// Kinds of calls: 0 a whole transcript, then acquire, release, deliver, drain, reason, fresh.
@@ -48,6 +49,11 @@ pub struct Tally {
     /// How many readers were queued behind a writer where writers are preferred, and how many joined past one where readers are.
     pub readers_queued: u64,
     pub readers_joined: u64,
+    /// How many acquires were refused with 6, for how many of them several packets named the client, and for how many the first
+    /// that did stood behind another one.
+    pub still_named: u64,
+    pub named_twice: u64,
+    pub named_behind: u64,
 }
 
 impl Tally {
@@ -136,6 +142,30 @@ impl Tally {
         format!("behind a writer queued {queued} joined {joined}")
     }
 
+    /// Tests an acquire by the packets that name its client, and counts a refusal 6; hand-made states pass this test too.
+    pub fn test_still_named<T>(
+        &mut self,
+        still_named: Option<StillNamed>,
+        outcome: &Result<T, Refusal>,
+    ) -> Result<(), String> {
+        let Some(still_named) = still_named else {
+            return Ok(());
+        };
+        still_named.check(outcome)?;
+        if matches!(outcome, Err(Refusal::ClientOnWire)) {
+            self.still_named += 1;
+            self.named_twice += u64::from(still_named.packets() > 1);
+            self.named_behind += u64::from(still_named.lowest() > Some(0));
+        }
+        Ok(())
+    }
+
+    /// How many of these refusals there were, in words.
+    pub fn still_named_line(&self) -> String {
+        let (named, twice, behind) = (self.still_named, self.named_twice, self.named_behind);
+        format!("still named {named} twice {twice} behind {behind}")
+    }
+
     /// Tests the handling of a call or a record, and counts it; hand-made states pass this test too.
     pub fn test_handling(
         &mut self,
@@ -177,6 +207,7 @@ pub struct Incoming {
     pub installation: Option<Installation>,
     pub arrival: Option<Arrival>,
     pub behind_writer: Option<BehindWriter>,
+    pub still_named: Option<StillNamed>,
 }
 
 impl Incoming {
@@ -188,6 +219,7 @@ impl Incoming {
             arrival: Arrival::at(state, index),
             behind_writer: preference
                 .and_then(|preference| BehindWriter::of_delivery(preference, state, index)),
+            still_named: None,
         }
     }
 
@@ -208,15 +240,19 @@ impl Incoming {
     ) -> Self {
         Incoming {
             behind_writer: BehindWriter::of_acquire(cluster, lock, machine, task, mode),
+            still_named: StillNamed::of_acquire(cluster, lock, machine, task),
             ..Incoming::default()
         }
     }
 
-    /// A refused step brings nothing.
+    /// A refused step brings nothing, but what names its client may be why it is refused.
     pub fn if_accepted<T>(self, outcome: &Result<T, Refusal>) -> Self {
         match outcome {
             Ok(_) => self,
-            Err(_) => Incoming::default(),
+            Err(_) => Incoming {
+                still_named: self.still_named,
+                ..Incoming::default()
+            },
         }
     }
 }

@@ -1,4 +1,4 @@
-//! Acquire and release by a client (document 01, 'Asking and handing back'; document 02, §5).
+//! Acquire and release by a client (document 01, 'Asking and handing back'; document 02, §5 and §6).
 
 use crate::answer::{Outcome, Refusal};
 use crate::model::{
@@ -50,6 +50,18 @@ impl Cluster {
             .get_mut(lock.index())
             .ok_or(Refusal::LockOutOfRange)
     }
+
+    /// The state of a lock, only to be read, and a client, or refusals 1 to 3, in this order.
+    pub(crate) fn lock_and_client(
+        &self,
+        lock: LockId,
+        machine: MachineId,
+        task: TaskId,
+    ) -> Result<(&LockState, ClientId), Refusal> {
+        let state = self.locks.get(lock.index());
+        let state = state.ok_or(Refusal::LockOutOfRange)?;
+        Ok((state, checked_client(machine, task)?))
+    }
 }
 
 /// Refusals 2 and 3, in this order.
@@ -64,11 +76,18 @@ pub(crate) fn checked_client(machine: MachineId, task: TaskId) -> Result<ClientI
 }
 
 impl LockState {
+    /// The index of the first packet on the wire that names a client, none if no packet does (document 02, §6).
+    pub fn first_naming(&self, client: ClientId) -> Option<usize> {
+        // A hand-made wire that claims more has no packets beyond the capacity.
+        let mut wire = self.wire.iter().take(WIRE_CAPACITY);
+        wire.position(|packet| packet.message.client() == Some(client))
+    }
+
     fn acquire(&mut self, client: ClientId, mode: Mode, preference: Preference) -> Outcome {
         if self.clients[client.index()] != ClientStatus::Idle {
             return Err(Refusal::ClientNotIdle);
         }
-        if self.wire.iter().any(|p| p.message.client() == Some(client)) {
+        if self.first_naming(client).is_some() {
             return Err(Refusal::ClientOnWire);
         }
         self.clients[client.index()] = match &mut self.agents[client.machine().index()] {

@@ -12,7 +12,7 @@ use reference::random_calls::HAND_MADE;
 use reference::random_runs::{random_run, Run};
 use reference::random_states::random_state;
 use reference::random_transcripts::random_transcript;
-use reference::report::{Report, Tally};
+use reference::report::Report;
 
 /// Agents, marked ACQUIREs, the decider's incarnation, the agent's, packets.
 type Figures = (usize, usize, u8, Option<u8>, usize);
@@ -391,19 +391,10 @@ fn hand_made_run_is_not_tested() {
     assert_eq!(report.tally.tested_states, 0);
 }
 
-fn tally_of(run: fn(u64, &mut Report) -> std::io::Result<()>, seeds: &[u64]) -> Tally {
-    let mut nowhere = std::io::sink();
-    let mut report = Report::new(&mut nowhere, false);
-    for &seed in seeds {
-        run(seed, &mut report).expect("nothing is broken");
-    }
-    report.tally
-}
-
 /// Each call of a lock that exists, answered 1 otherwise, and each step of a drain.
 #[test]
 fn every_state_of_a_run_is_tested() {
-    let tally = tally_of(random_run, &[1, 2, 3, 4, 5, 6, 7, 8, 9]);
+    let tally = tally_of(random_run, 1..=9);
     let calls = &tally.answers[1..=3];
     let on_a_lock = |answers: &[u64; 17]| answers.iter().sum::<u64>() - answers[1];
     let expected = calls.iter().map(on_a_lock).sum::<u64>() + tally.drain_steps;
@@ -413,8 +404,8 @@ fn every_state_of_a_run_is_tested() {
 
 #[test]
 fn transcripts_are_tested_and_states_are_not() {
-    let tally = tally_of(random_transcript, &[4, 5, 6]);
+    let tally = tally_of(random_transcript, 4..=6);
     assert!(tally.tested_states > 0);
-    let tally = tally_of(random_state, &[1, 2, 3, 4, 5, 6, 7, 8, 9]);
+    let tally = tally_of(random_state, 1..=9);
     assert_eq!(tally.tested_states, 0);
 }

@@ -18,7 +18,6 @@ use reference::reasons::reason_numbers;
 use reference::report::{Report, Tally};
 use reference::transcript::{listing, Record, Records};
 use reference::{answer_number, Drained, Handling, Refusal, StepOutcome, DRAIN_LIMIT};
-use std::process::Command;
 
 const X: Mode = Mode::Exclusive;
 const S: Mode = Mode::Shared;
@@ -965,12 +964,7 @@ fn line_of_the_counts() {
 /// A line for each part and each of its calls that may have a handling.
 #[test]
 fn program_counts_the_handlings() {
-    let program = Command::new(env!("CARGO_BIN_EXE_reference"))
-        .arg("counts")
-        .output()
-        .expect("the program runs");
-    assert!(program.status.success());
-    let text = String::from_utf8(program.stdout).expect("lines are text");
+    let text = written_by(&["counts"]);
     let lines = text.lines().filter(|line| line.contains(" handled "));
     let heads = lines.map(|line| line.split_once(" no-agent ").expect("figures").0);
     let expected = [
@@ -1043,8 +1037,6 @@ fn met_by_draining(cluster: &Cluster, lock: LockId) -> Handling {
     last
 }
 
-type RunSeed = fn(u64, &mut Report) -> std::io::Result<()>;
-
 /// How often each handling was met, none too, by calls and by drains, and how many refused drains had met one.
 #[derive(Clone, Copy, Debug, Default, PartialEq, Eq)]
 struct Met {
@@ -1052,17 +1044,6 @@ struct Met {
     deliveries: [u64; 4],
     drains: [u64; 4],
     refused_after_one: u64,
-}
-
-/// The lines of each step of a run, and its tally.
-fn lines_of(run: RunSeed, seed: u64) -> (Vec<String>, Tally) {
-    let mut written = Vec::new();
-    let mut report = Report::new(&mut written, true);
-    run(seed, &mut report).expect("nothing is broken");
-    let tally = report.tally;
-    let text = String::from_utf8(written).expect("lines are text");
-    let lines = text.lines().filter(|line| line.contains(" kind "));
-    (lines.map(String::from).collect(), tally)
 }
 
 /// Asserts the part of a line from the answer to the digest.
@@ -1115,6 +1096,7 @@ fn carry_out(
         }
         digest.bytes(&[call.kind, answer, handling.number()]);
         digest.bytes(&reason_numbers(&call.ask_reason(&cluster)));
+        digest.bytes(&named_numbers(&cluster, &call));
         if step.is_multiple_of(16) {
             digest.cluster(&cluster);
         }

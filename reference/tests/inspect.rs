@@ -25,7 +25,7 @@ const TAKE: [u8; 20] = [
 ];
 
 const TAKE_LINES: &str = r#"
-{"n":1,"kind":"acquire","lock":0,"machine":0,"task":0,"mode":3,"answer":0,"handling":null,"preference":0,"state":{
+{"n":1,"kind":"acquire","lock":0,"machine":0,"task":0,"mode":3,"answer":0,"named":null,"handling":null,"preference":0,"state":{
  "decider":{"mode":0,"machine":null,"incarnation":0,"writer":false},
  "agents":[null,null,null,null],
  "clients":[{"status":"waiting","mode":3,
@@ -60,7 +60,7 @@ const SHARE: [u8; 14] = [
 ];
 
 const SHARE_LINES: &str = r#"
-{"n":4,"kind":"acquire","lock":0,"machine":1,"task":0,"mode":3,"answer":0,"handling":null,"preference":0,"state":{
+{"n":4,"kind":"acquire","lock":0,"machine":1,"task":0,"mode":3,"answer":0,"named":null,"handling":null,"preference":0,"state":{
  "decider":{"mode":3,"machine":0,"incarnation":0,"writer":false},
  "agents":[{"mode":3,"holders":[0],"queue":[],"incarnation":0},null,null,null],
  "clients":[{"status":"holding","mode":3,"reason":null},IDLE,IDLE,IDLE,
@@ -126,7 +126,7 @@ fn assert_last_lines(bytes: &[u8], text: &str) {
 fn a_line_in_full() {
     let bytes = [8, 0, 1, 0, 5, 3, 2, 2];
     let expected = concat!(
-        r#"{"n":1,"kind":"acquire","lock":5,"machine":3,"task":2,"mode":2,"answer":0,"#,
+        r#"{"n":1,"kind":"acquire","lock":5,"machine":3,"task":2,"mode":2,"answer":0,"named":null,"#,
         r#""handling":null,"preference":0,"state":{"decider":{"mode":0,"machine":null,"incarnation":0,"writer":false},"#,
         r#""agents":[null,null,null,null],"clients":["#,
         r#"{"status":"idle","mode":null,"reason":null},{"status":"idle","mode":null,"reason":null},"#,
@@ -454,7 +454,7 @@ fn lock_out_of_range_has_no_state() {
         6, 0, 3, 0, 9, 40,
     ];
     let lines = r#"
-{"n":1,"kind":"acquire","lock":8,"machine":4,"task":5,"mode":1,"answer":1,"handling":null,"preference":0,"state":null,"counts":null}
+{"n":1,"kind":"acquire","lock":8,"machine":4,"task":5,"mode":1,"answer":1,"named":null,"handling":null,"preference":0,"state":null,"counts":null}
 {"n":2,"kind":"release","lock":255,"machine":0,"task":6,"answer":1,"handling":null,"preference":0,"state":null,"counts":null}
 {"n":3,"kind":"deliver","lock":9,"index":40,"answer":1,"handling":null,"preference":0,"state":null,"counts":null}
 {"end":"end","answer":0,"records":3,"handling":null,"preference":0,"drains":[{"lock":0,"answer":0,"count":0,"handling":null},REST]}
@@ -463,7 +463,7 @@ fn lock_out_of_range_has_no_state() {
 }
 
 const REFUSED_LINES: &str = r#"
-{"n":2,"kind":"acquire","lock":7,"machine":0,"task":0,"mode":2,"answer":5,"handling":null,"preference":0,"state":{
+{"n":2,"kind":"acquire","lock":7,"machine":0,"task":0,"mode":2,"answer":5,"named":null,"handling":null,"preference":0,"state":{
  "decider":{"mode":0,"machine":null,"incarnation":0,"writer":false},
  "agents":[null,null,null,null],
  "clients":[{"status":"waiting","mode":3,
@@ -556,6 +556,8 @@ fn handlings_of_records(bytes: &[u8]) -> Vec<String> {
         let (before, rest) = line.split_once(r#","handling":"#).expect("a handling");
         let end = r#","preference":0,"state":"#;
         let (handling, _) = rest.split_once(end).expect("a preference and a state");
+        // Of an acquire one more field stands between.
+        let (before, _) = before.split_once(r#","named":"#).unwrap_or((before, ""));
         let digits = before.trim_end_matches(|c: char| c.is_ascii_digit());
         assert!(digits.ends_with(r#","answer":"#), "{line}");
         String::from(handling)
@@ -600,6 +602,117 @@ fn handlings_of_a_release_that_comes_early() {
  {"lock":0,"answer":0,"count":5,"handling":"taken"},REST]}
 "#;
     assert_last_lines(&bytes[..67], end);
+}
+
+const STILL_NAMED_LINES: &str = r#"
+{"n":10,"kind":"acquire","lock":0,"machine":1,"task":0,"mode":3,"answer":6,"named":0,"handling":null,"preference":0,"state":{
+ "decider":{"mode":3,"machine":0,"incarnation":1,"writer":false},
+ "agents":[{"mode":3,"holders":[0],"queue":[],"incarnation":0},null,null,null],
+ "clients":[{"status":"holding","mode":3,"reason":null},IDLE,IDLE,IDLE,
+ IDLE,IDLE,IDLE,IDLE,IDLE,IDLE,IDLE,IDLE,IDLE,IDLE,IDLE,IDLE],
+ "wire":[{"kind":"ACQUIRE","to":0,"client":4,"mode":3,
+ "granted":true,"rejected":false,"agent":null},
+ {"kind":"RELEASE","to":null,"client":4,"mode":null,
+ "granted":false,"rejected":false,"agent":null}]},
+ "counts":{"agents":1,"marked":1}}
+{"end":"end","answer":0,"records":10,"handling":"not a holder","preference":0,"drains":[
+ {"lock":0,"answer":0,"count":5,"handling":"taken"},REST]}
+"#;
+
+/// D7: the marked ACQUIRE of 1/0 is the first packet that names it, its RELEASE the second.
+#[test]
+fn refusal_6_in_full() {
+    let bytes = [&TAKE[..], &SHARE, &BUSY].concat();
+    assert_last_lines(&bytes[..67], STILL_NAMED_LINES);
+    let lines = STILL_NAMED_LINES.replace(r#""preference":0"#, r#""preference":1"#);
+    let expected = unfolded(&[&lines]);
+    assert!(inspected_with(1, &bytes[..67]).ends_with(&expected));
+}
+
+/// Answers and fields `named` of the acquires' lines, as they are written; no other line has the field.
+fn named_of_acquires(bytes: &[u8]) -> Vec<(String, String)> {
+    let text = inspected(bytes);
+    let is_acquire = |line: &&str| line.contains(r#","kind":"acquire","#);
+    let (acquires, others): (Vec<&str>, Vec<&str>) = text.lines().partition(is_acquire);
+    assert!(others.iter().all(|line| !line.contains(r#""named""#)));
+    let fields = |line: &str| {
+        let (_, rest) = line.split_once(r#","answer":"#).expect("an answer");
+        let (answer, rest) = rest
+            .split_once(r#","named":"#)
+            .expect("the field behind it");
+        let (named, _) = rest.split_once(r#","handling":"#).expect("a handling");
+        (String::from(answer), String::from(named))
+    };
+    acquires.into_iter().map(fields).collect()
+}
+
+fn assert_named(bytes: &[u8], expected: &[(u8, Option<usize>)]) {
+    let words = |&(answer, named): &(u8, Option<usize>)| {
+        let named = named.map_or(String::from("null"), |index| index.to_string());
+        (answer.to_string(), named)
+    };
+    let expected: Vec<(String, String)> = expected.iter().map(words).collect();
+    assert_eq!(named_of_acquires(bytes), expected);
+}
+
+/// The acquire that is refused with 6, and those before and behind it that are accepted.
+#[test]
+fn named_is_null_beside_a_0() {
+    let bytes = [&TAKE[..], &SHARE, &BUSY].concat();
+    let expected = [(0, None), (0, None), (6, Some(0)), (0, None)];
+    assert_named(&bytes, &expected);
+}
+
+/// 1/0 waits while its GRANT and its marked ACQUIRE are on the wire; the other causes come before the wire is looked at, too.
+#[test]
+fn named_is_null_beside_another_refusal() {
+    let calls = [
+        8, 0, 1, 0, 0, 1, 0, 3, //
+        8, 0, 1, 0, 0, 1, 0, 1, //
+        8, 0, 1, 0, 0, 1, 4, 3, //
+        8, 0, 1, 0, 0, 4, 0, 3, //
+        8, 0, 1, 0, 8, 1, 0, 3,
+    ];
+    let bytes = [&TAKE[..], &SHARE, &calls].concat();
+    let refused = [5, 4, 3, 2, 1].map(|answer| (answer, None));
+    let expected = [&[(0, None), (0, None)], &refused[..]].concat();
+    assert_named(&bytes, &expected);
+}
+
+/// D13, with each RELEASE behind its client's marked ACQUIRE: the FREE is at 0, client c has 1 + 2c and 2 + 2c.
+#[test]
+fn named_on_the_full_wire() {
+    let mut bytes = [&TAKE[..], &[7, 0, 2, 0, 0, 0, 0]].concat();
+    let acquire = |number: u8| [8, 0, 1, 0, 0, number / 4, number % 4, 3];
+    for number in 0..16 {
+        let index = 1 + 2 * number;
+        bytes.extend(acquire(number));
+        bytes.extend([6, 0, 3, 0, 0, index].repeat(2));
+        bytes.extend([7, 0, 2, 0, 0, number / 4, number % 4]);
+    }
+    let mut expected = vec![(0, None); 17];
+    for (number, index) in [(0, 1), (1, 3), (4, 9), (14, 29), (15, 31)] {
+        bytes.extend(acquire(number));
+        expected.push((6, Some(index)));
+    }
+    // The FREE is rejected and goes to the end, so that the others move up.
+    bytes.extend([6, 0, 3, 0, 0, 0]);
+    for (number, index) in [(0, 0), (1, 2), (15, 30)] {
+        bytes.extend(acquire(number));
+        expected.push((6, Some(index)));
+    }
+    assert_named(&bytes, &expected);
+}
+
+/// Only the FREE of 0/0 is on the wire, and it names nobody: 0/0 may ask.
+#[test]
+fn named_is_null_where_a_free_is_all() {
+    let calls = [
+        7, 0, 2, 0, 0, 0, 0, //
+        8, 0, 1, 0, 0, 0, 0, 3,
+    ];
+    let bytes = [&TAKE[..], &calls].concat();
+    assert_named(&bytes, &[(0, None), (0, None)]);
 }
 
 /// The ACQUIRE of 1/0 comes to machine 0 before the agent does.
@@ -683,7 +796,7 @@ const BEHIND: [u8; 42] = [
 ];
 
 const BEHIND_LINES: &str = r#"
-{"n":4,"kind":"acquire","lock":0,"machine":1,"task":0,"mode":2,"answer":0,"handling":null,"preference":1,"state":{
+{"n":4,"kind":"acquire","lock":0,"machine":1,"task":0,"mode":2,"answer":0,"named":null,"handling":null,"preference":1,"state":{
  "decider":{"mode":3,"machine":0,"incarnation":0,"writer":false},
  "agents":[{"mode":3,"holders":[0],"queue":[],"incarnation":0},null,null,null],
  "clients":[{"status":"holding","mode":3,"reason":null},IDLE,IDLE,IDLE,
@@ -713,7 +826,7 @@ const BEHIND_LINES: &str = r#"
  IDLE,IDLE,IDLE,IDLE,IDLE,IDLE,IDLE,IDLE],
  "wire":[]},
  "counts":{"agents":1,"marked":0}}
-{"n":7,"kind":"acquire","lock":0,"machine":0,"task":1,"mode":3,"answer":0,"handling":null,"preference":1,"state":{
+{"n":7,"kind":"acquire","lock":0,"machine":0,"task":1,"mode":3,"answer":0,"named":null,"handling":null,"preference":1,"state":{
  "decider":{"mode":3,"machine":0,"incarnation":0,"writer":true},
  "agents":[{"mode":3,"holders":[0],
  "queue":[{"client":4,"mode":2},{"client":1,"mode":3}],"incarnation":0},null,null,null],
@@ -724,7 +837,7 @@ const BEHIND_LINES: &str = r#"
  IDLE,IDLE,IDLE,IDLE,IDLE,IDLE,IDLE,IDLE],
  "wire":[]},
  "counts":{"agents":1,"marked":0}}
-{"n":8,"kind":"acquire","lock":0,"machine":2,"task":0,"mode":3,"answer":0,"handling":null,"preference":1,"state":{
+{"n":8,"kind":"acquire","lock":0,"machine":2,"task":0,"mode":3,"answer":0,"named":null,"handling":null,"preference":1,"state":{
  "decider":{"mode":3,"machine":0,"incarnation":0,"writer":true},
  "agents":[{"mode":3,"holders":[0],
  "queue":[{"client":4,"mode":2},{"client":1,"mode":3}],"incarnation":0},null,null,null],

@@ -13,7 +13,7 @@ use reference::random_calls::{Profile, DELIVER, HAND_MADE};
 use reference::random_runs::random_run;
 use reference::random_states::{hand_made_cluster, random_state};
 use reference::random_transcripts::{random_transcript, transcript_bytes};
-use reference::report::{Report, Tally};
+use reference::report::Tally;
 use reference::transcript::{Record, Records};
 use reference::{Handling, Outcome, DRAIN_LIMIT};
 
@@ -503,17 +503,6 @@ fn met_by_transcript(seed: u64) -> Met {
         };
     }
     met
-}
-
-type RunSeed = fn(u64, &mut Report) -> std::io::Result<()>;
-
-fn tally_of(run: RunSeed, seeds: std::ops::RangeInclusive<u64>) -> Tally {
-    let mut nowhere = std::io::sink();
-    let mut report = Report::new(&mut nowhere, false);
-    for seed in seeds {
-        run(seed, &mut report).expect("nothing is broken");
-    }
-    report.tally
 }
 
 /// Asserts that calls and drains both met readers that were kept, and that all of them were tested.

@@ -19,7 +19,7 @@ use reference::report::{Report, Tally};
 use reference::transcript::{listing, Record, Records};
 use reference::{answer_number, Handling, Refusal, StepOutcome, DRAIN_LIMIT};
 use std::io::{BufRead, BufReader};
-use std::process::{Command, Stdio};
+use std::process::Stdio;
 
 const X: Mode = Mode::Exclusive;
 const S: Mode = Mode::Shared;
@@ -1391,17 +1391,6 @@ fn met_by_transcript(seed: u64) -> Met {
     met
 }
 
-type RunSeed = fn(u64, &mut Report) -> std::io::Result<()>;
-
-fn tally_of(run: RunSeed, seeds: std::ops::RangeInclusive<u64>) -> Tally {
-    let mut nowhere = std::io::sink();
-    let mut report = Report::new(&mut nowhere, false);
-    for seed in seeds {
-        run(seed, &mut report).expect("nothing is broken");
-    }
-    report.tally
-}
-
 fn sum(met: &[[Met; 2]], part: usize) -> Met {
     let parts = met.iter().map(|met| met[part]);
     parts.fold(Met::default(), Met::plus)
@@ -1590,18 +1579,6 @@ fn hand_made_states_have_both_preferences_and_their_faults() {
     }
     assert!(alone.into_iter().all(|times| times > 20), "{alone:?}");
     assert!(twice > 0);
-}
-
-fn program(arguments: &[&str]) -> Command {
-    let mut command = Command::new(env!("CARGO_BIN_EXE_reference"));
-    command.args(arguments);
-    command
-}
-
-fn written_by(arguments: &[&str]) -> String {
-    let output = program(arguments).output().expect("the program runs");
-    assert!(output.status.success());
-    String::from_utf8(output.stdout).expect("lines are text")
 }
 
 /// All runs begin with it, one run alone and the other parts do not.

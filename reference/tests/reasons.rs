@@ -14,7 +14,7 @@ use reference::random_runs::{random_run, Run};
 use reference::random_states::{hand_made_cluster, random_state};
 use reference::random_transcripts::random_transcript;
 use reference::reasons::{reason_numbers, Reason};
-use reference::report::{Report, Tally};
+use reference::report::Report;
 use reference::{answer_number, Drained, Refusal};
 
 /// The client of the hand-made states: machine 1, task 1.
@@ -617,32 +617,21 @@ fn hand_made_run_is_not_tested() {
     assert_eq!(report.tally.tested_waits, 0);
 }
 
-type RunSeed = fn(u64, &mut Report) -> std::io::Result<()>;
-
-fn tally_of(run: RunSeed, seeds: std::ops::Range<u64>) -> Tally {
-    let mut nowhere = std::io::sink();
-    let mut report = Report::new(&mut nowhere, false);
-    for seed in seeds {
-        run(seed, &mut report).expect("nothing is broken");
-    }
-    report.tally
-}
-
 /// One ask goes with each call, and every one that is answered 0 has one of the five reasons.
 #[test]
 fn asks_are_counted() {
-    let tally = tally_of(random_run, 1..19);
+    let tally = tally_of(random_run, 1..=18);
     let total = |kind: usize| tally.answers[kind].iter().sum::<u64>();
     assert_eq!(total(5), total(1) + total(2) + total(3));
     assert_eq!(tally.reasons.iter().sum::<u64>(), tally.answers[5][0]);
     assert!(tally.reasons.iter().all(|&given| given > 0));
     assert!(tally.tested_waits > 0);
     assert_eq!(tally.several_reasons, 0);
-    let tally = tally_of(random_state, 1..200);
+    let tally = tally_of(random_state, 1..=199);
     assert_eq!(tally.reasons.iter().sum::<u64>(), tally.answers[5][0]);
     assert!(tally.several_reasons > 0);
     assert_eq!(tally.tested_waits, 0);
-    let tally = tally_of(random_transcript, 4..8);
+    let tally = tally_of(random_transcript, 4..=7);
     assert!(tally.tested_waits > 0);
     assert_eq!(tally.answers[5], [0; 17]);
 }
@@ -677,20 +666,11 @@ fn search_and_list_agree_on_hand_made_states() {
     assert!(several > 100);
 }
 
-/// The lines of a run with each step.
-fn lines_of(run: RunSeed, seed: u64) -> Vec<String> {
-    let mut written = Vec::new();
-    let mut report = Report::new(&mut written, true);
-    run(seed, &mut report).expect("nothing is broken");
-    let text = String::from_utf8(written).expect("lines are text");
-    text.lines().map(String::from).collect()
-}
-
 /// Carries out the page once more, from the list of all reasons: the tail of each call's line, and its digest.
 fn assert_asks(run: RunSeed, seed: u64, profile: Profile, generator: Generator, cluster: Cluster) {
     let (mut generator, mut cluster) = (generator, cluster);
-    let lines = lines_of(run, seed);
-    let mut lines = lines.iter().filter(|line| line.contains(" kind "));
+    let (lines, _) = lines_of(run, seed);
+    let mut lines = lines.iter();
     let mut digest = Digest::new(seed);
     digest.cluster(&cluster);
     for step in 1..=profile.steps {
@@ -709,6 +689,7 @@ fn assert_asks(run: RunSeed, seed: u64, profile: Profile, generator: Generator, 
         digest.bytes(&[call.kind, answer_number(&outcome), handling]);
         let numbers = expected_numbers(&cluster, call.lock, call.machine, call.task);
         digest.bytes(&numbers);
+        digest.bytes(&named_numbers(&cluster, &call));
         if step.is_multiple_of(16) {
             digest.cluster(&cluster);
         }
@@ -731,7 +712,8 @@ fn digest_drain(cluster: &Cluster, lock: LockId, digest: &mut Digest) -> Cluster
 fn assert_tail(line: &str, numbers: &[u8], digest: u64) {
     let words: Vec<String> = numbers.iter().map(u8::to_string).collect();
     let (head, tail) = line.split_once(" reason ").expect("a tail");
-    assert_eq!(tail, words.join(" "), "{line}");
+    let (reason, _) = tail.split_once(" named").expect("what follows the reason");
+    assert_eq!(reason, words.join(" "), "{line}");
     let digest = format!(" digest {digest} cluster ");
     assert!(head.contains(&digest), "{line}");
 }

@@ -5,7 +5,7 @@
     options WORD ..            options for the command
     preference N               the cluster's preference, where it is not 0; it stands before the steps
     given STATE                the state of lock 0 before the first step, where it is not fresh; a refused delivery shows it, as record 1
-    STEP = ANSWER              a step as ./assemble takes it, and its answer; behind it the handling, if it has one
+    STEP = ANSWER              a step as ./assemble takes it, and its answer; behind it the handling, if it has one, and behind a 6 the packet's index
     after STATE                the lock's state after it; without this line it is as before
     end RECORDS = ANSWER DRAINS   the last line of inspect, with the last handling of the steps, and the drains whose count is not 0 as {"LOCK":COUNT},
                                   {"LOCK":[COUNT,ANSWER]} or {"LOCK":[COUNT,ANSWER,HANDLING]}
@@ -48,8 +48,8 @@ class Case:
 
     def add_step(self, text, state=None):
         words, answer = text.rsplit(" = ", 1)
-        number, _, handling = answer.partition(" ")
-        step = numbered(len(self.objects) + 1, words, int(number), handling or None, self.preference)
+        number, _, told = answer.partition(" ")
+        step = numbered(len(self.objects) + 1, words, int(number), told or None, self.preference)
         lock = step["lock"]
         if lock < LOCKS:
             self.states[lock] = state or self.states.get(lock) or fresh()
@@ -61,12 +61,13 @@ class Case:
         self.objects[-1].update(shown(state))
 
 
-def numbered(number, words, answer, handling=None, preference=0):
-    """A record's line, as far as its preference."""
+def numbered(number, words, answer, told=None, preference=0):
+    """A record's line, as far as its preference. What is told is a handling, or of an acquire the index of the packet for which it was refused."""
     kind, *rest = words.split()
     values = [part for word in rest for part in word.split("/")]
     fields = zip(KINDS[kind], (MODES.get(value) or int(value) for value in values), strict=True)
-    return {"n": number, "kind": kind, **dict(fields), "answer": answer, "handling": handling, "preference": preference}
+    told = {"named": told and int(told), "handling": None} if kind == "acquire" else {"handling": told}
+    return {"n": number, "kind": kind, **dict(fields), "answer": answer, **told, "preference": preference}
 
 
 def agent_of(short):

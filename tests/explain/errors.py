@@ -150,6 +150,21 @@ NOT_LINES += [(lines(*objects), wrong) for wrong, *objects in [
     (SECOND, refused(1), end_of("0 = 13 {}")),
 ]]
 
+# the packet for which an acquire was refused with 6: there is none, it is not said, the last, one ahead of it, one past the wire, no number, a FREE; and one
+# that is said beside another answer
+STILL = '{"wire":[{"kind":"RELEASE","client":5},{"kind":"RELEASE","client":4},{"kind":"RELEASE","client":4}]}'
+FREE = '{"wire":[{"kind":"FREE","agent":{"mode":3}}]}'
+WAITS = '{"clients":{"4":["waiting",3]},"wire":[{"kind":"ACQUIRE","client":4,"mode":3}]}'
+NOT_LINES += [(lines({**numbered(1, "acquire 0 1/0 shared", answer), "named": wrong, **shown(state_of(state))}, ENDED), FIRST) for answer, wrong, state in [
+    (6, 0, "{}"), (6, None, "{}"), (6, None, STILL), (6, 2, STILL), (6, 0, STILL), (6, 3, STILL), (6, 33, STILL), (6, True, STILL), (6, "1", STILL),
+    (5, 0, WAITS), (0, 0, WAITS), (9, 1, STILL)]]
+NOT_LINES += [
+    (lines({**numbered(1, "acquire 0 0/0 shared", 6), "named": 0, **shown(state_of(FREE))}, ENDED), FIRST),
+    (lines({**numbered(1, "acquire 8 1/0 shared", 1), "named": 0, **shown(None)}, ENDED), FIRST),
+    (lines({field: value for field, value in ASKED.items() if field != "named"}, ENDED), FIRST),
+    (lines({**refused(1), "named": None}, ENDED), FIRST),
+]
+
 REJECTED, MOVED, NOTHING = "a rejected GRANT, and two in the queue of its agent", "only indexes move", "nothing of a client is under way"
 KINDS, LOWEST = "two reasons of different kinds", "two reasons of one kind"
 # a reason that the state of a case's line does not give to this client

@@ -12,6 +12,7 @@ use Rattle.model.specs.declared.Message.{Message}
 use Rattle.model.specs.declared.Message.the-variants.{Free, Acquire, Grant, Release}
 use Rattle.model.specs.declared.Status.{Status}
 use Rattle.model.specs.declared.Status.the-variants.{Idle, Waiting, Holding}
+use Rattle.model.specs.declared.{Found.Found, Found.the-variants.{Nowhere, At}}
 use Rattle.model.specs.declared.Handling.{Handling}
 use Rattle.model.specs.declared.Handling.the-variants.{None, NoAgent, NotHolder, Taken}
 use Rattle.model.specs.declared.{Packet.Packet, Wire.Wire, ClientState.ClientState, LockState.LockState, Cluster.Cluster}
@@ -95,3 +96,8 @@ handlingNumber None = 0
 handlingNumber NoAgent = 1
 handlingNumber NotHolder = 2
 handlingNumber Taken = 3
+
+-- and what a search of a wire comes to
+abbrev pub foundBytes : Found → List ℕ
+foundBytes Nowhere = 0 ∷ []
+foundBytes (At i) = 1 ∷ i ∷ []

@@ -8,7 +8,7 @@ ghost use Rattle.model.specs.States.{modeNumber};
 ghost use Rattle.model.specs.Reasons.{reasonNumber, reasonValues};
 ghost use Rattle.digest.specs.Bytes.{digestOf, each, flagNumber, flagBytes, ownerBytes, deciderBytes, waiterBytes, queueBytes, agentBytes, slotBytes};
 ghost use Rattle.digest.specs.Bytes.{statusNumber, clientBytes, messageBytes, addressBytes, packetBytes, wireBytes, lockBytes, clusterBytes};
-ghost use Rattle.digest.specs.Bytes.{handlingNumber};
+ghost use Rattle.digest.specs.Bytes.{handlingNumber, foundBytes};
 use model::Address;
 use model::Agent;
 use model::AgentSlot;
@@ -16,6 +16,7 @@ use model::CLIENTS;
 use model::ClientState;
 use model::Cluster;
 use model::Decider;
+use model::Found;
 use model::Handling;
 use model::LOCKS;
 use model::LockState;
@@ -326,4 +327,14 @@ pub fn handling(h: u32, a: Handling) -> u32
     ensures { λ r. ⌜ r ≡ digestOf h (handlingNumber a ∷ []) ⌝ }
 {
     byte(h, handling_number(a))
+}
+
+// ---- and what a search of its wire comes to
+pub fn found(h: u32, f: Found) -> u32
+    ensures { λ r. ⌜ r ≡ digestOf h (foundBytes f) ⌝ }
+{
+    match f {
+        Found::Nowhere => byte(h, 0),
+        Found::At(index) => two(h, 1, index),
+    }
 }

@@ -9,15 +9,20 @@ use json::put_state;
 use listing::put_text;
 use model::Answer;
 use model::Call;
+use model::ClientId;
 use model::Cluster;
+use model::Found;
 use model::Handling;
 use model::LOCKS;
 use model::LockId;
 use model::LockState;
+use model::MACHINES;
 use model::MachineId;
 use model::Outcome;
 use model::Replayed;
+use model::TASKS;
 use model::TaskId;
+use parts::search::first_naming;
 
 fn put_client(out: &mut [u8], at: usize, l: LockId, m: MachineId, t: TaskId) -> usize {
     let k = put_field(out, at, b",\"lock\":", l.0 as u16);
@@ -53,6 +58,50 @@ fn put_call(out: &mut [u8], at: usize, c: Call) -> usize {
     }
 }
 
+// Which packet names the client first, on the lock's wire.
+fn named_on(x: Cluster, l: LockId, m: MachineId, t: TaskId) -> Found {
+    if l.0 < LOCKS as u8 {
+        if m.0 < MACHINES as u8 {
+            if t.0 < TASKS as u8 {
+                let s = x.locks[l.0 as usize];
+                return first_naming(s.wire, ClientId(TASKS as u8 * m.0 + t.0));
+            }
+        }
+    }
+    Found::Nowhere
+}
+
+fn put_found(out: &mut [u8], at: usize, f: Found) -> usize {
+    match f {
+        Found::Nowhere => put_text(out, at, b",\"named\":null"),
+        Found::At(index) => put_field(out, at, b",\"named\":", index as u16),
+    }
+}
+
+// The packet for which an acquire was refused with 6.
+fn put_named(out: &mut [u8], at: usize, c: Call, answer: u8, x: Cluster) -> usize {
+    match c {
+        Call::Acquire {
+            lock,
+            machine,
+            task,
+            mode: _,
+        } => {
+            if answer == 6 {
+                put_found(out, at, named_on(x, lock, machine, task))
+            } else {
+                put_found(out, at, Found::Nowhere)
+            }
+        }
+        Call::Release {
+            lock: _,
+            machine: _,
+            task: _,
+        } => at,
+        Call::Deliver { lock: _, index: _ } => at,
+    }
+}
+
 // What a machine made of the request.
 fn put_handling(out: &mut [u8], at: usize, h: Handling) -> usize {
     match h {
@@ -82,23 +131,25 @@ fn put_lock(out: &mut [u8], at: usize, x: Cluster, l: LockId) -> usize {
     }
 }
 
-// The outcome of a call on the lock l.
-fn put_outcome(out: &mut [u8], at: usize, o: Outcome, l: LockId) -> usize {
+// The outcome of a call.
+fn put_outcome(out: &mut [u8], at: usize, c: Call, o: Outcome) -> usize {
     let a = o.answer;
     let h = o.handling;
     let x = o.cluster;
-    let k = put_field(out, at, b",\"answer\":", a.number() as u16);
+    let answer = a.number();
+    let k = put_field(out, at, b",\"answer\":", answer as u16);
+    let k = put_named(out, k, c, answer, x);
     let k = put_handling(out, k, h);
     let k = put_field(out, k, b",\"preference\":", x.preference as u16);
     let k = put_text(out, k, b",\"state\":");
-    put_lock(out, k, x, l)
+    put_lock(out, k, x, lock_of(c))
 }
 
 // The line of the record with number n, whose call gave the outcome.
 pub fn put_record(out: &mut [u8], at: usize, n: u16, c: Call, o: Outcome) -> usize {
     let k = put_field(out, at, b"{\"n\":", n);
     let k = put_call(out, k, c);
-    let k = put_outcome(out, k, o, lock_of(c));
+    let k = put_outcome(out, k, c, o);
     put_text(out, k, b"}\n")
 }
 

@@ -4,11 +4,17 @@ use crate::choice::choose;
 use crate::generator;
 use crate::line::Line;
 use crate::profile::Profile;
+use model::ClientId;
 use model::Cluster;
+use model::LOCKS;
 use model::LockId;
+use model::LockState;
+use model::MACHINES;
 use model::MachineId;
 use model::Outcome;
+use model::TASKS;
 use model::TaskId;
+use parts::search::first_naming;
 
 // What goes on from step to step, beside the generator.
 pub struct Progress {
@@ -94,7 +100,28 @@ fn asked(mut r: Progress, c: Choice) -> Progress {
     r
 }
 
-// Item 4: the cluster's bytes, after every sixteenth step.
+// Item 4, on the lock's state, where machine and task are in range.
+fn searched(h: u32, s: LockState, machine: u8, task: u8) -> u32 {
+    if machine < MACHINES as u8 {
+        if task < TASKS as u8 {
+            let f = first_naming(s.wire, ClientId(TASKS as u8 * machine + task));
+            return digest::found(h, f);
+        }
+    }
+    h
+}
+
+// Item 4: which packet names the chosen client first.
+fn named(mut r: Progress, c: Choice) -> Progress {
+    let x = r.cluster;
+    if c.lock < LOCKS as u8 {
+        let s = x.locks[c.lock as usize];
+        r.digest = searched(r.digest, s, c.machine, c.task);
+    }
+    r
+}
+
+// Item 5: the cluster's bytes, after every sixteenth step.
 fn sampled(mut r: Progress, n: u16) -> Progress {
     if n % 16 == 0 {
         let x = r.cluster;
@@ -108,11 +135,12 @@ fn step(r: Progress, s: &mut u32, p: Profile, seed: u32, n: u16) -> Progress {
     let o = generator::eight_outputs(s);
     let x = r.cluster;
     let c = choose(p, seed, x, o);
-    if o.o0 % 64 == 0 {
-        sampled(asked(called(drained(r, seed, c.lock), c), c), n)
+    let r = if o.o0 % 64 == 0 {
+        drained(r, seed, c.lock)
     } else {
-        sampled(asked(called(r, c), c), n)
-    }
+        r
+    };
+    sampled(named(asked(called(r, c), c), c), n)
 }
 
 fn heading(word: &[u8], seed: u32) -> Line {

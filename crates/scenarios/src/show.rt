@@ -11,9 +11,11 @@ use counts::marks_in;
 use model::Agent;
 use model::AgentSlot;
 use model::CLIENTS;
+use model::ClientId;
 use model::ClientState;
 use model::Cluster;
 use model::Decider;
+use model::Found;
 use model::LockState;
 use model::MACHINES;
 use model::Mode;
@@ -23,6 +25,7 @@ use model::Queue;
 use model::Status;
 use model::Waiter;
 use model::Wire;
+use parts::search::first_naming;
 
 fn mode(m: Mode) -> u8 {
     match m {
@@ -161,6 +164,23 @@ fn counted(s: LockState) {
     text(b"\n");
 }
 
+fn found(f: Found) {
+    match f {
+        Found::Nowhere => text(b": nowhere\n"),
+        Found::At(index) => {
+            labelled(b": index ", index);
+            text(b"\n");
+        }
+    }
+}
+
+// The first packet that names the client.
+fn named(w: Wire, c: u8) {
+    text(b"named ");
+    client(c);
+    found(first_naming(w, ClientId(c)));
+}
+
 fn lock(s: LockState, k: usize, n: u8) {
     let c = s.clients;
     let a = s.agents;
@@ -170,6 +190,7 @@ fn lock(s: LockState, k: usize, n: u8) {
         4 => machine(a, n),
         5 => wire(s.wire),
         6 => counted(s),
+        8 => named(s.wire, n),
         _ => {}
     }
 }
@@ -195,7 +216,7 @@ pub fn shown(x: Cluster, y: Cluster, t: &[u8]) {
     let k = line::word(
         t,
         n.count,
-        b"0fresh 0kept 1client 0decider 1machine 0wire 0counts 0preference",
+        b"0fresh 0kept 1client 0decider 1machine 0wire 0counts 0preference 1named",
     );
     match k {
         0 => fresh(x),

@@ -5,7 +5,11 @@ use reference::model::{
     Address, Agent, ClientId, ClientStatus, Cluster, LockId, LockState, MachineId, Message, Mode,
     Packet, TaskId, Waiter,
 };
+use reference::random_calls::Call;
+use reference::report::{Report, Tally};
 use reference::{answer_number, Drained, Handling, Refusal};
+use std::ops::RangeInclusive;
+use std::process::Command;
 
 pub const LOCK: LockId = LockId(0);
 pub const EXCLUSIVE: u8 = 2;
@@ -230,4 +234,66 @@ pub fn d13() -> Cluster {
         accepted(&[release(&mut cluster, number / 4, number % 4)]);
     }
     cluster
+}
+
+/// The indexes of all packets that name a client; a wire that claims more than 33 packets has 33.
+pub fn all_naming(state: &LockState, asked: ClientId) -> Vec<usize> {
+    let client_of = |packet: &Packet| match packet.message {
+        Message::Acquire { client, .. } => Some(client),
+        Message::Grant { client, .. } => Some(client),
+        Message::Release { client } => Some(client),
+        Message::Free => None,
+    };
+    let all = 0..state.wire.len().min(33);
+    all.filter(|&index| client_of(&state.wire[index]) == Some(asked))
+        .collect()
+}
+
+/// The numbers of item 4 of a step (docs/random-runs.md), from the list of all packets that name the client.
+pub fn named_numbers(cluster: &Cluster, call: &Call) -> Vec<u8> {
+    if call.lock.0 > 7 || call.machine.0 > 3 || call.task.0 > 3 {
+        return vec![];
+    }
+    let state = &cluster.locks[call.lock.index()];
+    let asked = ClientId(4 * call.machine.0 + call.task.0);
+    match all_naming(state, asked)[..] {
+        [] => vec![0],
+        [first, ..] => vec![1, first as u8],
+    }
+}
+
+/// One seed of a part of docs/random-runs.md.
+pub type RunSeed = fn(u64, &mut Report) -> std::io::Result<()>;
+
+/// The lines of each step of a run, and its tally.
+pub fn lines_of(run: RunSeed, seed: u64) -> (Vec<String>, Tally) {
+    let mut written = Vec::new();
+    let mut report = Report::new(&mut written, true);
+    run(seed, &mut report).expect("nothing is broken");
+    let tally = report.tally;
+    let text = String::from_utf8(written).expect("lines are text");
+    let lines = text.lines().filter(|line| line.contains(" kind "));
+    (lines.map(String::from).collect(), tally)
+}
+
+pub fn tally_of(run: RunSeed, seeds: RangeInclusive<u64>) -> Tally {
+    let mut nowhere = std::io::sink();
+    let mut report = Report::new(&mut nowhere, false);
+    for seed in seeds {
+        run(seed, &mut report).expect("nothing is broken");
+    }
+    report.tally
+}
+
+pub fn program(arguments: &[&str]) -> Command {
+    let mut command = Command::new(env!("CARGO_BIN_EXE_reference"));
+    command.args(arguments);
+    command
+}
+
+/// What the program writes; it has to end well.
+pub fn written_by(arguments: &[&str]) -> String {
+    let output = program(arguments).output().expect("the program runs");
+    assert!(output.status.success());
+    String::from_utf8(output.stdout).expect("lines are text")
 }
