@@ -16,7 +16,7 @@ use parts::blank::plain_packet;
 use parts::blank::resent;
 use parts::blank::unowned;
 use parts::holders::is_shared;
-use parts::queue::writer_first;
+use queues::writer_first;
 use rules::effect::Effect;
 use rules::effect::cannot_place;
 use rules::effect::doing;

@@ -16,7 +16,7 @@ ghost use mathlib.Core.Path.{_≡_};
 ghost use mathlib.Core.List.{[]};
 ghost use Rattle.model.specs.States.{blankWaiter, queueOf, newAgent, someAgent, noAgent, plain, carrying, resent, blankPacket, unowned};
 
-pub(crate) fn blank_waiter() -> Waiter
+pub fn blank_waiter() -> Waiter
     ensures { λ r. ⌜ r ≡ blankWaiter ⌝ }
 {
     Waiter {

@@ -1,7 +1,6 @@
-// The parts of a lock's state, read and written: agents, holders, queues and the wire.
+// The parts of a lock's state, read and written: agents, holders and the wire; for queues there is the crate `queues`.
 pub mod blank;
 pub mod holders;
-pub mod queue;
 pub mod search;
 pub mod state;
 pub mod used;

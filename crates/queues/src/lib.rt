@@ -1,11 +1,11 @@
 // A queue of waiters, in the first slots of an array.
-use crate::blank::blank_waiter;
-use crate::holders::is_shared;
 use model::Agent;
 use model::ClientId;
 use model::QUEUE_CAPACITY;
 use model::Queue;
 use model::Waiter;
+use parts::blank::blank_waiter;
+use parts::holders::is_shared;
 ghost use mathlib.Core.Path.{_≡_};
 ghost use mathlib.Core.Bool.{_&&_};
 ghost use mathlib.Core.List.{[], _∷_, _++_};

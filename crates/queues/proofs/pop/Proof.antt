@@ -1,6 +1,6 @@
-use Rattle.parts.proofs.Base.{needs, popped}
-use Rattle.parts.proofs.queue.pop.Statement.{statement}
-use Rattle.parts.proofs.queue.pop.Tie as tie
+use Rattle.queues.proofs.Base.{needs, popped}
+use Rattle.queues.proofs.pop.Statement.{statement}
+use Rattle.queues.proofs.pop.Tie as tie
 
 pub pop-spec : {M : Type 1} → statement M
 pop-spec = tie.close (tie.spec (search needs) (search needs) (search needs)

@@ -1,6 +1,6 @@
-use Rattle.parts.proofs.Base.{refl, needs, eq-eqb, ne-eqb, waiters}
-use Rattle.parts.proofs.queue.writer_first.Statement.{statement}
-use Rattle.parts.proofs.queue.writer_first.Tie as tie
+use Rattle.queues.proofs.Base.{refl, needs, eq-eqb, ne-eqb, waiters}
+use Rattle.queues.proofs.writer_first.Statement.{statement}
+use Rattle.queues.proofs.writer_first.Tie as tie
 
 pub writer-first-spec : {M : Type 1} → statement M
 unfolding waiters

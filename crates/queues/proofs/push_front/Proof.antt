@@ -1,6 +1,6 @@
-use Rattle.parts.proofs.Base.{needs, fronted}
-use Rattle.parts.proofs.queue.push_front.Statement.{statement}
-use Rattle.parts.proofs.queue.push_front.Tie as tie
+use Rattle.queues.proofs.Base.{needs, fronted}
+use Rattle.queues.proofs.push_front.Statement.{statement}
+use Rattle.queues.proofs.push_front.Tie as tie
 
 pub push-front-spec : {M : Type 1} → statement M
 push-front-spec = tie.close (tie.spec (search needs) (search needs) (search needs)

@@ -1,7 +1,7 @@
-use Rattle.parts.proofs.Base.{_≡_, sym, _∙_, _-_, _≤_, arith, length, take, drop, needs, eq-eqb, ne-eqb, any, blankWaiter, isClient, used-hit, used-miss}
-use Rattle.parts.proofs.Base.{used-none, queueCapacity}
-use Rattle.parts.proofs.queue.waiting_in.Statement.{statement}
-use Rattle.parts.proofs.queue.waiting_in.Tie as tie
+use Rattle.queues.proofs.Base.{_≡_, sym, _∙_, _-_, _≤_, arith, length, take, drop, needs, eq-eqb, ne-eqb, any, blankWaiter, isClient, used-hit}
+use Rattle.queues.proofs.Base.{used-miss, used-none, queueCapacity}
+use Rattle.queues.proofs.waiting_in.Statement.{statement}
+use Rattle.queues.proofs.waiting_in.Tie as tie
 
 abbrev Inv-loop : tie.InvT-loop
 Inv-loop n c a j₀ j = (any (isClient c) (drop j (take n a)) ≡ any (isClient c) (take n a)) × (j ≤ n)

@@ -1,6 +1,6 @@
-use Rattle.parts.proofs.Base.{refl, needs, waiters}
-use Rattle.parts.proofs.queue.no_room.Statement.{statement}
-use Rattle.parts.proofs.queue.no_room.Tie as tie
+use Rattle.queues.proofs.Base.{refl, needs, waiters}
+use Rattle.queues.proofs.no_room.Statement.{statement}
+use Rattle.queues.proofs.no_room.Tie as tie
 
 pub no-room-spec : {M : Type 1} → statement M
 unfolding waiters

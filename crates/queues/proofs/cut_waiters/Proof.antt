@@ -1,6 +1,6 @@
-use Rattle.parts.proofs.Base.{_≡_, _∙_, _-_, _<_, arith, length, length-set, needs, blankWaiter, cutUsed, cutUsed-step, cutUsed-last, queueCapacity}
-use Rattle.parts.proofs.queue.cut_waiters.Statement.{statement}
-use Rattle.parts.proofs.queue.cut_waiters.Tie as tie
+use Rattle.queues.proofs.Base.{_≡_, _∙_, _-_, _<_, arith, length, length-set, needs, blankWaiter, cutUsed, cutUsed-step, cutUsed-last, queueCapacity}
+use Rattle.queues.proofs.cut_waiters.Statement.{statement}
+use Rattle.queues.proofs.cut_waiters.Tie as tie
 
 abbrev Inv-loop : tie.InvT-loop
 Inv-loop n b₀ j₀ b j = (cutUsed b j n blankWaiter ≡ cutUsed b₀ j₀ n blankWaiter) × ((length b ≡ queueCapacity) × (j < n))

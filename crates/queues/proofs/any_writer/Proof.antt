@@ -1,7 +1,7 @@
-use Rattle.parts.proofs.Base.{_≡_, sym, ap, _∙_, _-_, _≤_, not, arith, length, take, drop, needs, any, blankWaiter, isWriter, used-hit, used-miss}
-use Rattle.parts.proofs.Base.{used-none, queueCapacity}
-use Rattle.parts.proofs.queue.any_writer.Statement.{statement}
-use Rattle.parts.proofs.queue.any_writer.Tie as tie
+use Rattle.queues.proofs.Base.{_≡_, sym, ap, _∙_, _-_, _≤_, not, arith, length, take, drop, needs, any, blankWaiter, isWriter, used-hit, used-miss}
+use Rattle.queues.proofs.Base.{used-none, queueCapacity}
+use Rattle.queues.proofs.any_writer.Statement.{statement}
+use Rattle.queues.proofs.any_writer.Tie as tie
 
 abbrev Inv-loop : tie.InvT-loop
 Inv-loop n a j₀ j = (any isWriter (drop j (take n a)) ≡ any isWriter (take n a)) × (j ≤ n)

@@ -1,6 +1,6 @@
-use Rattle.parts.proofs.Base.{_≡_, _∙_, _<_, arith, length, length-set, needs, slid, slid-down, slid-last, queueCapacity}
-use Rattle.parts.proofs.queue.slide_waiters.Statement.{statement}
-use Rattle.parts.proofs.queue.slide_waiters.Tie as tie
+use Rattle.queues.proofs.Base.{_≡_, _∙_, _<_, arith, length, length-set, needs, slid, slid-down, slid-last, queueCapacity}
+use Rattle.queues.proofs.slide_waiters.Statement.{statement}
+use Rattle.queues.proofs.slide_waiters.Tie as tie
 
 abbrev Inv-loop : tie.InvT-loop
 Inv-loop n w b₀ j₀ b j = (slid b j w ≡ slid b₀ j₀ w) × ((length b ≡ queueCapacity) × (j < queueCapacity))
