@@ -1,7 +1,7 @@
 // The calls on a cluster. Each is, for every cluster and all arguments, the call of the model. A call tests the whole cluster once; runs of calls,
-// which know that a cluster stays well formed, take the steps on one lock in `lock_calls`.
-use crate::lock_calls::lock_of;
-use crate::lock_calls::plan_call;
+// which know that a cluster stays well formed, take the steps on one lock in the crate `lock_calls`.
+use lock_calls::lock_of;
+use lock_calls::plan_call;
 use making::refuse_call;
 use model::Answer;
 use model::Call;
@@ -21,7 +21,6 @@ ghost use Rattle.model.specs.States.{locks};
 ghost use Rattle.model.specs.WellFormed.{wellFormed};
 ghost use Rattle.model.specs.Calls.{acquire, release, deliver, perform, lockOf};
 
-pub mod lock_calls;
 mod waiting;
 
 pub use draining::drain;

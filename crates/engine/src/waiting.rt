@@ -1,7 +1,7 @@
 // Why a client waits: a call that only reads the cluster.
-use crate::lock_calls::client_of;
-use crate::lock_calls::range_test;
 use formed::well_formed;
+use lock_calls::client_of;
+use lock_calls::range_test;
 use model::Answer;
 use model::Cluster;
 use model::LOCKS;

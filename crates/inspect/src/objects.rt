@@ -2,11 +2,11 @@
 use counts::agents_in;
 use counts::marks_in;
 use engine::drain;
-use engine::lock_calls::lock_of;
 use json::put_comma;
 use json::put_field;
 use json::put_state;
 use listing::put_text;
+use lock_calls::lock_of;
 use model::Answer;
 use model::Call;
 use model::ClientId;

@@ -32,7 +32,7 @@ use Rattle.laws.specs.Formed.{cells, lock-formed, lock-read, read-formed, ready
 use Rattle.laws.specs.Clusters.{perform-formed}
 use Rattle.planning.specs.declared.plan.Plan.{Plan}
 use Rattle.planning.specs.Plans.{Plans, carriedOut}
-use Rattle.engine.specs.LockCalls.{callOn, perform-range, perform-accepts, perform-refuses}
+use Rattle.lock_calls.specs.LockCalls.{callOn, perform-range, perform-accepts, perform-refuses}
 use Rattle.listing.specs.Put.{put-then}
 
 -- ---- What a record's call c makes of the cluster y and of v, the last handling told: its answer a, v′ and the cluster z, and w packets on its lock's wire.

@@ -1,12 +1,12 @@
 // The run of a transcript, with its listing. The cluster stays in one local: each record's call is planned on its lock's state, which is written in
 // its place where the plan accepts; then the record's line is put into the caller's buffer, as far as that goes.
-use engine::lock_calls::carry_out;
-use engine::lock_calls::lock_of;
-use engine::lock_calls::plan_call;
-use engine::well_formed;
+use formed::well_formed;
 use listing::put_header;
 use listing::put_line;
 use listing::put_refused;
+use lock_calls::carry_out;
+use lock_calls::lock_of;
+use lock_calls::plan_call;
 use model::Answer;
 use model::Call;
 use model::Cluster;

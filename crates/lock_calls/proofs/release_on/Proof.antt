@@ -1,6 +1,6 @@
-use Rattle.engine.proofs.Base.{sym, _∙_, needs, ready, in-range, stepUnless, releaseOn}
-use Rattle.engine.proofs.lock_calls.release_on.Statement.{statement}
-use Rattle.engine.proofs.lock_calls.release_on.Tie as tie
+use Rattle.lock_calls.proofs.Base.{sym, _∙_, needs, ready, in-range, stepUnless, releaseOn}
+use Rattle.lock_calls.proofs.release_on.Statement.{statement}
+use Rattle.lock_calls.proofs.release_on.Tie as tie
 
 pub release-on-spec : {M : Type 1} → statement M
 unfolding releaseOn stepUnless

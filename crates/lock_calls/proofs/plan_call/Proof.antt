@@ -1,6 +1,6 @@
-use Rattle.engine.proofs.Base.{needs, callOn, acquireOn, releaseOn, deliverOn}
-use Rattle.engine.proofs.lock_calls.plan_call.Statement.{statement}
-use Rattle.engine.proofs.lock_calls.plan_call.Tie as tie
+use Rattle.lock_calls.proofs.Base.{needs, callOn, acquireOn, releaseOn, deliverOn}
+use Rattle.lock_calls.proofs.plan_call.Statement.{statement}
+use Rattle.lock_calls.proofs.plan_call.Tie as tie
 
 pub plan-call-spec : {M : Type 1} → statement M
 unfolding callOn acquireOn releaseOn deliverOn

@@ -1,6 +1,6 @@
-use Rattle.engine.proofs.Base.{needs, packets, first, lt-leb, le-leb, length, length-packets, ready, stepUnless, deliverOn}
-use Rattle.engine.proofs.lock_calls.deliver_on.Statement.{statement}
-use Rattle.engine.proofs.lock_calls.deliver_on.Tie as tie
+use Rattle.lock_calls.proofs.Base.{needs, packets, first, lt-leb, le-leb, length, length-packets, ready, stepUnless, deliverOn}
+use Rattle.lock_calls.proofs.deliver_on.Statement.{statement}
+use Rattle.lock_calls.proofs.deliver_on.Tie as tie
 
 pub deliver-on-spec : {M : Type 1} → statement M
 unfolding deliverOn stepUnless first

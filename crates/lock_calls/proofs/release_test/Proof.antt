@@ -1,6 +1,6 @@
-use Rattle.engine.proofs.Base.{[], needs, first, in-range}
-use Rattle.engine.proofs.lock_calls.release_test.Statement.{statement}
-use Rattle.engine.proofs.lock_calls.release_test.Tie as tie
+use Rattle.lock_calls.proofs.Base.{[], needs, first, in-range}
+use Rattle.lock_calls.proofs.release_test.Statement.{statement}
+use Rattle.lock_calls.proofs.release_test.Tie as tie
 
 pub release-test-spec : {M : Type 1} → statement M
 unfolding first

@@ -1,6 +1,6 @@
-use Rattle.engine.proofs.Base.{sym, _∙_, needs, ready, in-range, stepUnless, acquireOn}
-use Rattle.engine.proofs.lock_calls.acquire_on.Statement.{statement}
-use Rattle.engine.proofs.lock_calls.acquire_on.Tie as tie
+use Rattle.lock_calls.proofs.Base.{sym, _∙_, needs, ready, in-range, stepUnless, acquireOn}
+use Rattle.lock_calls.proofs.acquire_on.Statement.{statement}
+use Rattle.lock_calls.proofs.acquire_on.Tie as tie
 
 pub acquire-on-spec : {M : Type 1} → statement M
 unfolding acquireOn stepUnless

@@ -1,6 +1,6 @@
-use Rattle.engine.proofs.Base.{needs, first}
-use Rattle.engine.proofs.lock_calls.holding_test.Statement.{statement}
-use Rattle.engine.proofs.lock_calls.holding_test.Tie as tie
+use Rattle.lock_calls.proofs.Base.{needs, first}
+use Rattle.lock_calls.proofs.holding_test.Statement.{statement}
+use Rattle.lock_calls.proofs.holding_test.Tie as tie
 
 pub holding-test-spec : {M : Type 1} → statement M
 unfolding first

@@ -9,9 +9,9 @@ use lib.Seq.{set-getD}
 use lib.Dec.{leb}
 use borrow.Author.Tests.{le-leb, lt-leb, leb-false}
 use native.Mathlib.Omega.{arith}
-use Rattle.engine.specs.Names.{LockId, MachineId, TaskId, Refusal, Malformed, LockRange, MachineRange, TaskRange}
-use Rattle.engine.specs.Names.{Answer, Accepted, Refused, LockState, Cluster, Call, AcquireCall, ReleaseCall}
-use Rattle.engine.specs.Names.{DeliverCall, Stepped, Outcome}
+use Rattle.lock_calls.specs.Names.{LockId, MachineId, TaskId, Refusal, Malformed, LockRange, MachineRange, TaskRange}
+use Rattle.lock_calls.specs.Names.{Answer, Accepted, Refused, LockState, Cluster, Call, AcquireCall, ReleaseCall}
+use Rattle.lock_calls.specs.Names.{DeliverCall, Stepped, Outcome}
 use Rattle.model.specs.States.{locks, machines, tasks, clientOf, modeOf, freshLock, lockIn}
 use Rattle.model.specs.WellFormed.{wellFormed}
 use Rattle.model.specs.Changes.{refused}

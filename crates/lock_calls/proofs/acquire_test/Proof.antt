@@ -1,6 +1,6 @@
-use Rattle.engine.proofs.Base.{[], needs, first, first-no, in-range}
-use Rattle.engine.proofs.lock_calls.acquire_test.Statement.{statement}
-use Rattle.engine.proofs.lock_calls.acquire_test.Tie as tie
+use Rattle.lock_calls.proofs.Base.{[], needs, first, first-no, in-range}
+use Rattle.lock_calls.proofs.acquire_test.Statement.{statement}
+use Rattle.lock_calls.proofs.acquire_test.Tie as tie
 
 returns : tie.Need-returns
 returns c =

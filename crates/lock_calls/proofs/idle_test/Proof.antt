@@ -1,6 +1,6 @@
-use Rattle.engine.proofs.Base.{refl, needs, first, at-any}
-use Rattle.engine.proofs.lock_calls.idle_test.Statement.{statement}
-use Rattle.engine.proofs.lock_calls.idle_test.Tie as tie
+use Rattle.lock_calls.proofs.Base.{refl, needs, first, at-any}
+use Rattle.lock_calls.proofs.idle_test.Statement.{statement}
+use Rattle.lock_calls.proofs.idle_test.Tie as tie
 
 -- what the search came to is the cause of refusal 6
 pub idle-test-spec : {M : Type 1} → statement M

@@ -1,6 +1,6 @@
-use Rattle.engine.proofs.Base.{refl, needs, le-leb, lt-leb, first, machines, tasks}
-use Rattle.engine.proofs.lock_calls.range_test.Statement.{statement}
-use Rattle.engine.proofs.lock_calls.range_test.Tie as tie
+use Rattle.lock_calls.proofs.Base.{refl, needs, le-leb, lt-leb, first, machines, tasks}
+use Rattle.lock_calls.proofs.range_test.Statement.{statement}
+use Rattle.lock_calls.proofs.range_test.Tie as tie
 
 pub range-test-spec : {M : Type 1} → statement M
 unfolding first

@@ -32,11 +32,11 @@ ghost use Rattle.model.specs.Refusals.{Cause, first};
 ghost use Rattle.model.specs.Calls.{isIdle, isHolding, idleTests, acquireTests, holdingTests, releaseTests, lockOf};
 ghost use Rattle.laws.specs.Shapes.{CanonicalWire};
 ghost use Rattle.planning.specs.Plans.{Plans};
-ghost use Rattle.engine.specs.LockCalls.{rangeTests, further, acquireOn, releaseOn, deliverOn, callOn};
+ghost use Rattle.lock_calls.specs.LockCalls.{rangeTests, further, acquireOn, releaseOn, deliverOn, callOn};
 pub use planning::plan::Plan;
 pub use planning::plan::carry_out;
 
-pub(crate) fn client_of(k: MachineId, t: TaskId) -> ClientId
+pub fn client_of(k: MachineId, t: TaskId) -> ClientId
     requires { ⌜ (k .0 < machines) × (t .0 < tasks) ⌝ }
     ensures { λ r. ⌜ r ≡ clientOf k t ⌝ }
 {
@@ -87,7 +87,7 @@ fn idle_test(s: LockState, c: ClientId) -> Answer
 }
 
 // Machine and task are in range. These tests come first, whatever others follow.
-pub(crate) fn range_test(k: MachineId, t: TaskId) -> Answer
+pub fn range_test(k: MachineId, t: TaskId) -> Answer
     ensures { λ r. ⌜ ((cs : List Cause) → first (rangeTests k t cs) ≡ further r (first cs)) ⌝ }
 {
     if MACHINES as u8 <= k.0 {
