@@ -62,7 +62,7 @@ FORMS = {
     "reason": {"kind": one_of(*ON_WIRE, "queue"), "index": or_null(number(WIRE - 1)), "machine": or_null(number(MACHINES - 1)),
                "ahead": or_null(number(CLIENTS - 1))},
     "packet": {"kind": one_of("ACQUIRE", "GRANT", "RELEASE", "FREE"), "to": or_null(number(MACHINES - 1)), "client": or_null(CLIENT),
-               "mode": or_null(MODE), "granted": FLAG, "rejected": FLAG, "agent": or_null(thing("agent"))},
+               "mode": or_null(MODE), "granted": FLAG, "rejected": FLAG, "circled": BYTE, "agent": or_null(thing("agent"))},
     "end": {"end": one_of(*ENDS), "answer": one_of(*ENDS.values()), "records": number(65535), "handling": HANDLING, "preference": BYTE,
             "drains": rows(thing("drain"), LOCKS)},
     "drain": {"lock": number(LOCKS - 1), "answer": one_of(0, 9, 10, 11, 14), "count": number(16384), "handling": HANDLING},
@@ -74,6 +74,7 @@ def whole_packet(packet):
     kind, carries = packet["kind"], packet["agent"] is not None
     return ((packet["client"] is None) == (kind == "FREE") and (packet["mode"] is None) == (kind in ("FREE", "RELEASE"))
             and (not packet["granted"] or kind == "ACQUIRE") and (not packet["rejected"] or carries and packet["to"] is not None)
+            and (not packet["circled"] or kind in ("ACQUIRE", "RELEASE"))
             and (carries if kind == "FREE" else not carries or kind == "GRANT"))
 
 

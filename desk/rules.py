@@ -1,6 +1,6 @@
 """What each rule of docs/protocol.md did in a step: its sentences, from the packet, what was sent, and the states before and after."""
 from desk.lines import fresh, status_of
-from desk.words import EXCLUSIVE, MODES, SHARED, client, clients, packet
+from desk.words import CIRCLES, EXCLUSIVE, MODES, SHARED, circled, client, clients, packet
 
 
 def at(step, number=0):
@@ -17,8 +17,8 @@ def agent_after(step):
 
 
 def sent_one(step, kind, to):
-    """The only packet sent, which must be of this kind and go there."""
-    step.need(len(step.sent) == 1 and step.sent[0]["kind"] == kind and step.sent[0]["to"] == to)
+    """The only packet sent, which must be of this kind, go there and be a new one."""
+    step.need(len(step.sent) == 1 and step.sent[0]["kind"] == kind and step.sent[0]["to"] == to and not step.sent[0]["circled"])
     return step.sent[0]
 
 
@@ -148,10 +148,11 @@ def granted_at_decider(step):
     step.decider_is_as_it_was(incarnation=(step.before["decider"]["incarnation"] + 1) % 256)
     step.need(len(step.sent) == 2)
     grant, marked = step.sent
-    step.need(grant["kind"] == "GRANT" and marked["kind"] == "ACQUIRE" and marked["granted"])
+    step.need(grant["kind"] == "GRANT" and marked["kind"] == "ACQUIRE" and marked["granted"] and not marked["circled"])
+    anew = ["The marked ACQUIRE is a new packet: it has not circled."] if step.packet["circled"] else []
     return [f"Lock and request are shared: granted on the spot, and the decider counts up to {step.after['decider']['incarnation']}.",
             f"{packet(grant)}, goes to machine {grant['to']}, {at(step)}; "
-            f"the ACQUIRE, now marked, goes to machine {marked['to']}, the owner, {at(step, 1)}."]
+            f"the ACQUIRE, now marked, goes to machine {marked['to']}, the owner, {at(step, 1)}.", *anew]
 
 
 def sent_on(step, it, **but):
@@ -257,8 +258,13 @@ def free_at_machine(step):
 
 
 def sent_back(step):
-    """An ACQUIRE or a RELEASE that a machine returns as it is."""
-    return step.sent == [{**step.packet, "to": None}]
+    """An ACQUIRE or a RELEASE that a machine returns, counted once more and otherwise as it is."""
+    return step.sent == [{**step.packet, "to": None, "circled": min(step.packet["circled"] + 1, CIRCLES)}]
+
+
+def goes_back(step):
+    """Where it goes, and how often it has circled now."""
+    return f"the {step.packet['kind']} goes back to the decider, {at(step)}. It has {circled(step.sent[0]['circled'])}."
 
 
 def handled(step):
@@ -269,7 +275,7 @@ def handled(step):
 
 
 def came_back(step):
-    """A request that is not taken goes back as it is, and no other does."""
+    """A request that is not taken goes back, and no other does."""
     step.need(sent_back(step) == (step.line["handling"] != "taken"))
     return sent_back(step)
 
@@ -277,7 +283,7 @@ def came_back(step):
 def acquire_at_machine(step):
     of = client(step.client)
     if came_back(step):
-        return [f"Machine {step.machine} has no agent: the {step.packet['kind']} goes back to the decider, unchanged, {at(step)}."]
+        return [f"Machine {step.machine} has no agent: {goes_back(step)}"]
     if step.packet["granted"]:
         return marked_at_machine(step)
     if not joins(step, agent_before(step), step.packet["mode"]):
@@ -301,7 +307,7 @@ def marked_at_machine(step):
 
 def release_at_machine(step):
     if came_back(step):
-        return [f"{not_listed(step)}: the RELEASE goes back to the decider, unchanged, {at(step)}."]
+        return [f"{not_listed(step)}: {goes_back(step)}"]
     return strikes_off(step)
 
 

@@ -1,6 +1,7 @@
 """The parts of a lock in the words of docs/protocol.md."""
 
 EXCLUSIVE, SHARED = 2, 3
+CIRCLES = 255  # the most that a packet's count says
 MODES = {EXCLUSIVE: "exclusive", SHARED: "shared"}
 STATUSES = {"idle": "is idle", "waiting": "waits", "holding": "holds"}
 UNDER_WAY = {"ACQUIRE": "its ACQUIRE is", "GRANT": "its GRANT is", "rejected GRANT": "its GRANT was rejected and is"}
@@ -23,8 +24,14 @@ def count(number, word):
     return f"{number} {word}" if number == 1 else f"{number} {word}s"
 
 
+def circled(number):
+    """How often a packet has circled; at 255 its count stays."""
+    often = {1: "once", 2: "twice", CIRCLES: f"{CIRCLES} times or more"}
+    return f"circled {often.get(number, f'{number} times')}"
+
+
 def packet(packet):
-    """A packet without its address: its marks, its kind, its client and mode, and whether the agent is inside."""
+    """A packet without its address: its marks, its kind, its client and mode, whether the agent is inside, and how often it has circled, if it has."""
     words = ("rejected " if packet["rejected"] else "") + ("marked " if packet["granted"] else "") + packet["kind"]
     if packet["client"] is not None:
         words += (" for " if packet["kind"] == "GRANT" else " of ") + client(packet["client"])
@@ -32,7 +39,7 @@ def packet(packet):
         words += ", " + MODES[packet["mode"]]
     if packet["agent"] is not None:
         words += " with the agent" if packet["kind"] == "FREE" else ", with the agent"
-    return words
+    return f"{words}, {circled(packet['circled'])}" if packet["circled"] else words
 
 
 def status(client, when=""):

@@ -1,4 +1,4 @@
-//! Delivery of a packet (document 01, 'At the decider' and 'At a machine'; document 02, §3 to §5).
+//! Delivery of a packet (document 01, 'At the decider' and 'At a machine'; document 02, §3 to §5 and §7).
 //!
 //! A delivery first chooses its action, which tests refusal 9, then counts the
 //! packets that the action sends, which tests refusal 10, and only then
@@ -216,6 +216,7 @@ impl LockState {
             Message::Grant { client, mode },
             Address::Machine(client.machine()),
         ));
+        // The marked copy is a packet of its own, so its count begins at 0 (document 02, §7).
         let granted = true;
         self.wire.push(Packet::new(
             Message::Acquire {
@@ -246,10 +247,7 @@ impl LockState {
     fn apply_at_machine(&mut self, action: Action, packet: Packet) {
         let client = packet.message.client();
         match (action, packet.message, client) {
-            (Action::SendBackWithoutAgent | Action::SendBackUnlisted, ..) => {
-                let address = Address::Decider;
-                self.wire.push(Packet { address, ..packet });
-            }
+            (Action::SendBackWithoutAgent | Action::SendBackUnlisted, ..) => self.send_back(packet),
             (Action::RestoreAgent(machine), ..) => self.restore_agent(machine, packet),
             (Action::ShowGrant, Message::Grant { client, mode }, _) => {
                 self.clients[client.index()] = ClientStatus::Holding(mode);
@@ -274,6 +272,18 @@ impl LockState {
             (Action::RemoveHolder(machine), _, Some(client)) => self.remove_holder(machine, client),
             _ => unreachable!("the action does not belong to the packet"),
         }
+    }
+
+    /// Sends the decider the packet that a machine cannot use, counted once more.
+    fn send_back(&mut self, packet: Packet) {
+        let address = Address::Decider;
+        // The count has eight bits and, unlike an incarnation, does not wrap (document 02, §7).
+        let circled = packet.circled.saturating_add(1);
+        self.wire.push(Packet {
+            address,
+            circled,
+            ..packet
+        });
     }
 
     fn install_agent(

@@ -76,6 +76,7 @@ impl Digest {
         let client = packet.message.client().map_or(0, |client| client.0);
         self.bytes(&[kind, client, mode, u8::from(granted)]);
         self.bytes(&[u8::from(to_machine), machine, u8::from(packet.rejected)]);
+        self.byte(packet.circled);
         self.optional_agent(packet.agent.as_ref());
     }
 

@@ -85,11 +85,13 @@ impl Arrival {
         Err(format!("taken, but {words}"))
     }
 
-    /// The packet is the last one on the wire, to the decider; all else is as before.
+    /// The packet is the last one on the wire, to the decider; all else, but for its count, is as before.
     fn check_sent_back(&self, after: &LockState) -> Result<(), String> {
         let mut expected = self.before.clone();
         let mut packet = expected.wire.remove(self.index);
         packet.address = Address::Decider;
+        // How often it has circled is left to the test of the counts.
+        packet.circled = after.wire.last().map_or(0, |last| last.circled);
         expected.wire.push(packet);
         check(*after == expected, || {
             String::from("the step did more, or less, than send the packet back")
@@ -164,7 +166,7 @@ pub fn check_step(
     }
 }
 
-fn is_request_or_release(packet: &Packet) -> bool {
+pub(crate) fn is_request_or_release(packet: &Packet) -> bool {
     matches!(
         packet.message,
         Message::Acquire { .. } | Message::Release { .. }

@@ -276,14 +276,15 @@ impl fmt::Display for Json<'_, Packet> {
         });
         let client = OrNull(packet.message.client().map(|client| client.0));
         let mode = OrNull(mode.map(Mode::number));
-        let (rejected, agent) = (packet.rejected, OrNull(packet.agent.as_ref().map(Json)));
+        let (rejected, circled) = (packet.rejected, packet.circled);
+        let agent = OrNull(packet.agent.as_ref().map(Json));
         write!(
             f,
             r#"{{"kind":"{kind}","to":{to},"client":{client},"mode":{mode},"#
         )?;
         write!(
             f,
-            r#""granted":{granted},"rejected":{rejected},"agent":{agent}}}"#
+            r#""granted":{granted},"rejected":{rejected},"circled":{circled},"agent":{agent}}}"#
         )
     }
 }

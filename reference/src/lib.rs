@@ -6,6 +6,7 @@
 //! `fresh` makes it.
 
 pub mod answer;
+pub mod circled;
 pub mod counts;
 mod delivery;
 pub mod digest;

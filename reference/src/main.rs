@@ -190,5 +190,6 @@ fn tested_lines(
         writeln!(out, "{name} {}", tally.handled_line(kind))?;
     }
     writeln!(out, "{name} {}", tally.behind_writer_line())?;
-    writeln!(out, "{name} {}", tally.still_named_line())
+    writeln!(out, "{name} {}", tally.still_named_line())?;
+    writeln!(out, "{name} {}", tally.circled_line())
 }

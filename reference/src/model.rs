@@ -1,5 +1,6 @@
 //! The state of the cluster: locks, machines, tasks and packets in flight
-//! (document 01, 'What stands on the bench'), and its preference (document 02, §5).
+//! (document 01, 'What stands on the bench'), its preference and the counts of
+//! packets (document 02, §5 and §7).
 //!
 //! The types can also hold states outside the bounds of document 01, so that
 //! hand-made malformed states can be represented and refused.
@@ -248,21 +249,24 @@ pub struct Packet {
     pub message: Message,
     pub address: Address,
     pub rejected: bool,
+    /// How often a machine has sent the packet back, and 255 also where it was more often.
+    pub circled: u8,
     pub agent: Option<Agent>,
 }
 
 impl Packet {
-    /// A packet that is not rejected and carries no agent.
+    /// A packet that is not rejected, has not circled and carries no agent.
     pub fn new(message: Message, address: Address) -> Self {
         Packet {
             message,
             address,
             rejected: false,
+            circled: 0,
             agent: None,
         }
     }
 
-    /// A packet that is not rejected and carries an agent.
+    /// A packet that is not rejected, has not circled and carries an agent.
     pub fn with_agent(message: Message, address: Address, agent: Agent) -> Self {
         Packet {
             agent: Some(agent),

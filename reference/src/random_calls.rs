@@ -219,8 +219,8 @@ impl Call {
         let (lock, machine, task) = (self.lock, self.machine, self.task);
         match self.kind {
             ACQUIRE => Incoming::of_acquire(cluster, lock, machine, task, self.mode),
-            DELIVER => Incoming::of_delivery(cluster, lock, self.index),
-            _ => Incoming::default(),
+            RELEASE => Incoming::of_release(cluster, lock),
+            _ => Incoming::of_delivery(cluster, lock, self.index),
         }
     }
 

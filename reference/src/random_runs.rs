@@ -1,11 +1,12 @@
 //! Random runs of calls and drains (docs/random-runs.md).
 
 use crate::answer::{answer_number, Handling, Refusal, StepOutcome};
+use crate::circled::{Origin, TrueNumbers};
 use crate::digest::Digest;
 use crate::drain::Drained;
 use crate::generator::Generator;
 use crate::handlings::StepHandlings;
-use crate::model::{ClientId, Cluster, LockId, LockState};
+use crate::model::{ClientId, Cluster, LockId, LockState, LOCKS};
 use crate::random_calls::{Call, Profile, DRAIN, FRESH, REASON};
 use crate::reasons::reason_numbers;
 use crate::report::{Incoming, Observation, Report, Tally};
@@ -27,6 +28,8 @@ pub struct Run {
     profile: Profile,
     generator: Generator,
     cluster: Cluster,
+    /// How often the packets of each lock were sent back.
+    numbers: [TrueNumbers; LOCKS],
     digest: Digest,
     step: u64,
     accepted: u64,
@@ -93,12 +96,14 @@ impl Run {
     ) -> Self {
         let mut digest = Digest::new(seed);
         digest.cluster(&cluster);
+        let numbers = cluster.locks.each_ref().map(TrueNumbers::of);
         Run {
             label,
             seed,
             profile,
             generator,
             cluster,
+            numbers,
             digest,
             step: 0,
             accepted: 0,
@@ -186,7 +191,9 @@ impl Run {
     /// A drain on a copy, which the run keeps or forgets by its seed.
     fn drain(&mut self, call: Call, report: &mut Report) -> io::Result<()> {
         let mut drained = self.cluster.clone();
-        let (given, tested) = self.tested_drain(call, &mut drained, &mut report.tally);
+        let mut numbers = self.numbers.clone();
+        let tally = &mut report.tally;
+        let (given, tested) = self.tested_drain(call, &mut drained, &mut numbers, tally);
         report.tally.count(call.kind, given.answer);
         report.tally.count_drain(given.count);
         self.digest_given(call.kind, given);
@@ -196,6 +203,7 @@ impl Run {
         self.stop_if_broken(call.lock, tested)?;
         if self.seed / 16 % 2 == 1 {
             self.cluster = drained;
+            self.numbers = numbers;
         }
         Ok(())
     }
@@ -205,6 +213,7 @@ impl Run {
         &self,
         call: Call,
         drained: &mut Cluster,
+        numbers: &mut [TrueNumbers; LOCKS],
         tally: &mut Tally,
     ) -> (Given, Result<(), String>) {
         let mut tested = Ok(());
@@ -216,7 +225,9 @@ impl Run {
             let incoming = std::mem::replace(&mut next, Incoming::at(state, 0, preference));
             // A drain cannot be stopped from here; after a failure it goes on untested.
             if tested.is_ok() {
-                let result = self.test_drain_step(incoming, handling, state, &mut steps, tally);
+                let numbers = numbers.get_mut(call.lock.index());
+                let result =
+                    self.test_drain_step(incoming, handling, state, &mut steps, numbers, tally);
                 tested = result.map_err(|broken| format!("drain step {number}: {broken}"));
             }
         });
@@ -224,6 +235,7 @@ impl Run {
         if outcome.is_err() {
             // As if the steps had not been.
             steps = StepHandlings::default();
+            numbers.clone_from(&self.numbers);
         }
         tested = tested.and_then(|()| tally.test_last_handling(call.kind, &steps, given.handling));
         if self.is_tested {
@@ -239,11 +251,13 @@ impl Run {
         handling: Handling,
         state: &LockState,
         steps: &mut StepHandlings,
+        numbers: Option<&mut TrueNumbers>,
         tally: &mut Tally,
     ) -> Result<(), String> {
         tally.test_installation(incoming.installation, Some(state))?;
         steps.test_step(incoming.arrival.as_ref(), handling, state)?;
         tally.test_behind_writer(incoming.behind_writer, Some(state))?;
+        tally.test_circled(numbers, incoming.wire, Some(state), self.origin())?;
         if self.is_tested {
             tally.test_state(state, self.cluster.preference)?;
         }
@@ -251,26 +265,36 @@ impl Run {
     }
 
     fn test_call(
-        &self,
+        &mut self,
         call: Call,
         outcome: &StepOutcome,
         handling: Handling,
         incoming: Incoming,
         report: &mut Report,
     ) -> io::Result<()> {
-        let state = self.cluster.locks.get(call.lock.index());
+        let (origin, lock) = (self.origin(), call.lock.index());
+        let (state, numbers) = (self.cluster.locks.get(lock), self.numbers.get_mut(lock));
         let tally = &mut report.tally;
         let incoming = incoming.if_accepted(outcome);
         let mut tested = tally.test_installation(incoming.installation, state);
         tested = tested
             .and_then(|()| tally.test_handling(call.kind, incoming.arrival, handling, state))
             .and_then(|()| tally.test_behind_writer(incoming.behind_writer, state))
-            .and_then(|()| tally.test_still_named(incoming.still_named, outcome));
+            .and_then(|()| tally.test_still_named(incoming.still_named, outcome))
+            .and_then(|()| tally.test_circled(numbers, incoming.wire, state, origin));
         if self.is_tested {
             let preference = self.cluster.preference;
             tested = tested.and_then(|()| tally.test_call(call.kind, outcome, state, preference));
         }
         self.stop_if_broken(call.lock, tested)
+    }
+
+    /// Only what begins with a fresh cluster is tested in full.
+    fn origin(&self) -> Origin {
+        match self.is_tested {
+            true => Origin::Fresh,
+            false => Origin::HandMade,
+        }
     }
 
     /// The error ends the program, and its words are the last line.

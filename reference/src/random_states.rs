@@ -17,6 +17,8 @@ const WIRE_LENGTHS: [usize; 16] = [0, 0, 1, 1, 1, 2, 2, 2, 3, 3, 4, 5, 6, 31, 32
 const QUEUE_LENGTHS: [usize; 8] = [0, 0, 0, 1, 2, 3, 15, 16];
 /// How many of sixteen clients hold the lock, about.
 const HOLDER_DENSITIES: [u64; 4] = [0, 1, 4, 12];
+/// Counts of ACQUIREs and RELEASEs: few times back, or near to where they stay.
+const COUNTS: [u8; 6] = [0, 0, 1, 253, 254, 255];
 
 /// The one way in which a drawn lock may be malformed.
 #[derive(Clone, Copy, Debug, PartialEq, Eq)]
@@ -36,10 +38,11 @@ enum Fault {
     StaleWireSlot,
     PreferenceOutOfRange,
     BitSet,
+    CountAboveZero,
 }
 
-/// The faults by their numbers; greater numbers are no faults.
-const FAULTS: [Fault; 15] = [
+/// The faults by their numbers.
+const FAULTS: [Fault; 16] = [
     Fault::None,
     Fault::WaiterOutOfRange,
     Fault::WaiterTwice,
@@ -55,6 +58,7 @@ const FAULTS: [Fault; 15] = [
     Fault::StaleWireSlot,
     Fault::PreferenceOutOfRange,
     Fault::BitSet,
+    Fault::CountAboveZero,
 ];
 
 /// A fault, the number for what is out of range, and the slot that has it:
@@ -108,8 +112,7 @@ pub fn hand_made_cluster(seed: u64, generator: &mut Generator) -> Cluster {
 
 /// A lock of a cluster that without faults has this preference, and the flaw that was drawn for it.
 fn draw_lock(generator: &mut Generator, preference: u8) -> (LockState, Flaw) {
-    let number = generator.draw(16) as usize;
-    let fault = FAULTS.get(number).copied().unwrap_or(Fault::None);
+    let fault = FAULTS[generator.draw(16) as usize];
     let value = generator.draw(239) as u8;
     let drawn = WIRE_LENGTHS[generator.draw(16) as usize];
     let packets = match fault {
@@ -240,18 +243,26 @@ fn draw_packet(generator: &mut Generator, flaw: Flaw, stale_slot: &mut bool) -> 
     let kind = generator.draw(8);
     let message = draw_message(generator, kind, flaw);
     let address = generator.draw(8);
-    let carries = generator.draw(2) == 0;
-    let rejects = generator.draw(3) == 0;
+    let agent_draw = generator.draw(2);
+    let rejected_draw = generator.draw(3);
     let is_free = message == Message::Free;
     let is_grant = matches!(message, Message::Grant { .. });
-    let has_agent = is_free || (is_grant && carries);
-    let rejected = has_agent && rejects;
+    let has_agent = is_free || (is_grant && agent_draw == 0);
+    let rejected = has_agent && rejected_draw == 0;
+    // What may circle carries no agent, so these two draws are free for its count.
+    let may_circle = !is_free && !is_grant;
+    let drawn_count = COUNTS[(3 * agent_draw + rejected_draw) as usize];
     let to_machine = rejected || (!is_free && address >= 4);
     let present = has_agent != (flaw.fault == Fault::AgentFlipped);
     Packet {
         message,
         address: shape_address(to_machine, (address % 4) as u8, flaw),
         rejected: rejected != (flaw.fault == Fault::RejectedFlipped),
+        circled: match flaw.fault {
+            Fault::CountAboveZero => 1 + flaw.value,
+            _ if may_circle => drawn_count,
+            _ => 0,
+        },
         agent: draw_agent(generator, present, flaw, stale_slot),
     }
 }

@@ -1,12 +1,13 @@
 //! Random transcripts, some of them damaged (docs/random-runs.md).
 
-use crate::answer::answer_number;
+use crate::answer::{answer_number, StepOutcome};
+use crate::circled::{Origin, TrueNumbers};
 use crate::digest::Digest;
 use crate::generator::Generator;
 use crate::handlings::StepHandlings;
-use crate::model::Cluster;
+use crate::model::{Cluster, LOCKS};
 use crate::random_calls::{Call, Profile, ACQUIRE, RELEASE, TRANSCRIPT};
-use crate::report::{Incoming, Report};
+use crate::report::{Incoming, Report, Tally};
 use crate::transcript::{listing, Record, TRANSCRIPT_LIMIT};
 use std::io;
 
@@ -46,34 +47,54 @@ pub fn random_transcript(seed: u64, report: &mut Report) -> io::Result<()> {
 fn count_answers(seed: u64, bytes: &[u8], report: &mut Report) -> io::Result<()> {
     let tally = &mut report.tally;
     let mut tested = Ok(());
-    let mut before = Cluster::new();
-    let mut steps = StepHandlings::default();
+    let mut past = Past::default();
     let whole = Cluster::new().run_transcript_with(bytes, |number, record, outcome, cluster| {
-        let (kind, lock) = (record.kind() as u8, record.lock());
-        tally.count(kind, answer_number(&outcome));
+        tally.count(record.kind() as u8, answer_number(&outcome));
         // A transcript cannot be stopped from here; after a failure it goes on untested.
         if tested.is_ok() {
-            let state = cluster.locks.get(lock.index());
-            let handling = outcome.unwrap_or_default();
-            steps.push(handling);
-            let incoming = incoming(record, &before).if_accepted(&outcome);
-            let result = tally.test_installation(incoming.installation, state);
-            let result = result
-                .and_then(|()| tally.test_handling(kind, incoming.arrival, handling, state))
-                .and_then(|()| tally.test_behind_writer(incoming.behind_writer, state))
-                .and_then(|()| tally.test_still_named(incoming.still_named, &outcome))
-                .and_then(|()| tally.test_call(kind, &outcome, state, cluster.preference));
+            let result = past.test_record(record, &outcome, cluster, tally);
             tested = result.map_err(|broken| {
-                let place = format!("transcript {seed} record {number} lock {}", lock.0);
+                let place = format!("transcript {seed} record {number} lock {}", record.lock().0);
                 io::Error::other(format!("{place}: {broken}"))
             });
         }
-        follow(record, cluster, &mut before);
+        follow(record, cluster, &mut past.before);
     });
     tally.count(TRANSCRIPT, answer_number(&whole.answer));
     tested?;
-    let result = tally.test_last_handling(TRANSCRIPT, &steps, whole.handling);
+    let result = tally.test_last_handling(TRANSCRIPT, &past.steps, whole.handling);
     result.map_err(|broken| io::Error::other(format!("transcript {seed}: {broken}")))
+}
+
+/// What the tests of a record need of the records before it.
+#[derive(Default)]
+struct Past {
+    before: Cluster,
+    steps: StepHandlings,
+    /// How often the packets of each lock were sent back.
+    numbers: [TrueNumbers; LOCKS],
+}
+
+impl Past {
+    fn test_record(
+        &mut self,
+        record: &Record,
+        outcome: &StepOutcome,
+        cluster: &Cluster,
+        tally: &mut Tally,
+    ) -> Result<(), String> {
+        let (kind, lock) = (record.kind() as u8, record.lock().index());
+        let (state, numbers) = (cluster.locks.get(lock), self.numbers.get_mut(lock));
+        let handling = outcome.unwrap_or_default();
+        self.steps.push(handling);
+        let incoming = incoming(record, &self.before).if_accepted(outcome);
+        tally.test_installation(incoming.installation, state)?;
+        tally.test_handling(kind, incoming.arrival, handling, state)?;
+        tally.test_behind_writer(incoming.behind_writer, state)?;
+        tally.test_still_named(incoming.still_named, outcome)?;
+        tally.test_circled(numbers, incoming.wire, state, Origin::Fresh)?;
+        tally.test_call(kind, outcome, state, cluster.preference)
+    }
 }
 
 /// What a record is to bring a machine, or to ask of it, on the cluster before it.
@@ -82,7 +103,7 @@ fn incoming(record: &Record, before: &Cluster) -> Incoming {
         Record::Acquire(lock, machine, task, mode) => {
             Incoming::of_acquire(before, lock, machine, task, mode)
         }
-        Record::Release(..) => Incoming::default(),
+        Record::Release(lock, ..) => Incoming::of_release(before, lock),
         Record::Deliver(lock, index) => Incoming::of_delivery(before, lock, index),
     }
 }

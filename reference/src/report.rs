@@ -1,6 +1,7 @@
 //! Where the lines of random runs go, and what was met on the way.
 
 use crate::answer::{Handling, Refusal};
+use crate::circled::{Origin, TrueNumbers, WireBefore, FULL};
 use crate::counts::Counts;
 use crate::handlings::{check_step, Arrival, StepHandlings};
 use crate::installations::Installation;
@@ -54,6 +55,12 @@ pub struct Tally {
     pub still_named: u64,
     pub named_twice: u64,
     pub named_behind: u64,
+    /// How many counts of packets were tested.
+    pub tested_counts: u64,
+    /// How many deliveries sent a packet back, the greatest true number, and how many of these packets had the greatest count before.
+    pub sent_back: u64,
+    pub most_circled: u64,
+    pub sent_back_full: u64,
 }
 
 impl Tally {
@@ -166,6 +173,32 @@ impl Tally {
         format!("still named {named} twice {twice} behind {behind}")
     }
 
+    /// Goes on with a lock's true numbers past an accepted step, and tests the counts of its packets by them.
+    pub fn test_circled(
+        &mut self,
+        numbers: Option<&mut TrueNumbers>,
+        before: Option<WireBefore>,
+        after: Option<&LockState>,
+        origin: Origin,
+    ) -> Result<(), String> {
+        let (Some(numbers), Some(before), Some(after)) = (numbers, before, after) else {
+            return Ok(());
+        };
+        if let Some(number) = numbers.follow(&before, after)? {
+            self.sent_back += 1;
+            self.sent_back_full += u64::from(number >= FULL);
+        }
+        self.most_circled = self.most_circled.max(numbers.greatest());
+        self.tested_counts += numbers.check(after, origin)? as u64;
+        Ok(())
+    }
+
+    /// How many packets were sent back, in words.
+    pub fn circled_line(&self) -> String {
+        let (back, most, full) = (self.sent_back, self.most_circled, self.sent_back_full);
+        format!("circled back {back} most {most} full {full}")
+    }
+
     /// Tests the handling of a call or a record, and counts it; hand-made states pass this test too.
     pub fn test_handling(
         &mut self,
@@ -208,6 +241,7 @@ pub struct Incoming {
     pub arrival: Option<Arrival>,
     pub behind_writer: Option<BehindWriter>,
     pub still_named: Option<StillNamed>,
+    pub wire: Option<WireBefore>,
 }
 
 impl Incoming {
@@ -220,6 +254,7 @@ impl Incoming {
             behind_writer: preference
                 .and_then(|preference| BehindWriter::of_delivery(preference, state, index)),
             still_named: None,
+            wire: Some(WireBefore::of_delivery(state, index)),
         }
     }
 
@@ -241,6 +276,15 @@ impl Incoming {
         Incoming {
             behind_writer: BehindWriter::of_acquire(cluster, lock, machine, task, mode),
             still_named: StillNamed::of_acquire(cluster, lock, machine, task),
+            ..Incoming::of_release(cluster, lock)
+        }
+    }
+
+    /// A release brings no packet and asks nothing.
+    pub fn of_release(cluster: &Cluster, lock: LockId) -> Self {
+        let state = cluster.locks.get(lock.index());
+        Incoming {
+            wire: state.map(WireBefore::of_request),
             ..Incoming::default()
         }
     }

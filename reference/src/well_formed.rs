@@ -1,4 +1,4 @@
-//! Which clusters are well formed (document 01, 'What stands on the bench'; document 02, §5).
+//! Which clusters are well formed (document 01, 'What stands on the bench'; document 02, §5 and §7).
 
 use crate::answer::{Outcome, Refusal};
 use crate::model::{
@@ -73,6 +73,7 @@ impl Packet {
             && self.agent.as_ref().is_none_or(Agent::is_well_formed)
             && self.has_allowed_agent()
             && self.has_allowed_mark()
+            && self.has_allowed_count()
     }
 
     /// An agent travels in every FREE and in some GRANTs, in nothing else.
@@ -92,6 +93,14 @@ impl Packet {
             kind && self.agent.is_some() && self.address != Address::Decider
         } else {
             self.message != Message::Free || self.address == Address::Decider
+        }
+    }
+
+    /// No machine sends a GRANT or FREE back, so neither has circled.
+    fn has_allowed_count(&self) -> bool {
+        match self.message {
+            Message::Grant { .. } | Message::Free => self.circled == 0,
+            Message::Acquire { .. } | Message::Release { .. } => true,
         }
     }
 }

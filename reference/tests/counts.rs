@@ -296,30 +296,9 @@ fn tests_have_an_order() {
     says(&state, "2 packets are FREEs");
 }
 
-/// The line that stops a run from this state of all locks, tested as if it were a reached one.
-fn stopped(seed: u64, state: &LockState) -> String {
-    let mut cluster = Cluster::new();
-    cluster.locks.fill(state.clone());
-    let mut written = Vec::new();
-    let mut report = Report::new(&mut written, false);
-    let run = Run::new("run", seed, HAND_MADE, Generator::new(seed), cluster);
-    let stop = run.tested().finish(&mut report);
-    assert!(written.is_empty());
-    stop.expect_err("the run is stopped").to_string()
-}
-
-/// A seed with a drain of a lock in its first step, before the first call.
-fn draining_seed() -> u64 {
-    let drains =
-        |outputs: [u64; 8]| outputs[0].is_multiple_of(64) && outputs[1] % 64 >= HAND_MADE.wild;
-    let mut seeds = 1..1_000;
-    let seed = seeds.find(|&seed| drains(Generator::new(seed).eight()));
-    seed.expect("one step in 64 drains a lock")
-}
-
 /// Asserts where and why the first drain stops the run.
 fn assert_drain_stopped(state: &LockState, expected: &str) {
-    let line = stopped(draining_seed(), state);
+    let line = stopped(READERS, draining_seed(), state);
     let (place, words) = line.split_once(": ").expect("a place and words");
     assert!(place.starts_with("run ") && place.contains(" step 1 lock "));
     assert_eq!(words, expected);
@@ -329,7 +308,7 @@ fn assert_drain_stopped(state: &LockState, expected: &str) {
 fn run_stops_at_a_broken_count() {
     let mut state = owned(Mode::Shared);
     state.agents[1] = Some(Agent::new(Mode::Shared));
-    let line = stopped(4, &state);
+    let line = stopped(READERS, 4, &state);
     let (place, words) = line.split_once(": ").expect("a place and words");
     assert_eq!(words, "2 agents at a lock that is not free");
     let words: Vec<&str> = place.split(' ').collect();
@@ -359,7 +338,7 @@ fn run_stops_at_a_refusal_9() {
     };
     assert_eq!(state.check_counts(), Ok(()));
     assert_drain_stopped(&state, "drain is answered 9");
-    assert!(stopped(4, &state).ends_with(": deliver is answered 9"));
+    assert!(stopped(READERS, 4, &state).ends_with(": deliver is answered 9"));
 }
 
 /// On a full wire a shared grant has no room, though nothing is wrong to count.

@@ -78,7 +78,7 @@ fn assert_handled(before: LockState, handling: Handling, expected: LockState) {
     assert_eq!(arrival.check(handling, &after), Ok(()));
 }
 
-/// The packet goes to the wire's end, to the decider, and nothing else changes.
+/// The packet goes to the wire's end, to the decider, counted once, and nothing else changes.
 #[track_caller]
 fn assert_sent_back(message: Message, agent: Option<Agent>, handling: Handling) {
     let before = coming(message, agent);
@@ -86,7 +86,7 @@ fn assert_sent_back(message: Message, agent: Option<Agent>, handling: Handling) 
 }
 
 fn sent_back(before: &LockState) -> LockState {
-    let back = plain(before.wire[1].message, Address::Decider);
+    let back = with_count(1, plain(before.wire[1].message, Address::Decider));
     LockState {
         wire: vec![other(15), other(14), back],
         ..before.clone()
@@ -753,6 +753,7 @@ fn changes_of_sent_back() -> Vec<fn(&mut LockState)> {
         |state| state.wire[2].message = request(NAMED, S, true),
         |state| state.wire[2].rejected = true,
         |state| state.wire[2].agent = Some(Agent::new(S)),
+        |state| state.wire[1].circled = 1,
         |state| state.wire.push(other(13)),
         |state| state.wire.insert(0, other(13)),
         |state| state.agents[1] = None,
@@ -781,6 +782,17 @@ fn packet_that_goes_back_is_all_that_changes() {
     let mut after = sent_back(&before);
     after.wire[2].message = request(NAMED, S, true);
     says(&before, Handling::NoAgent, &after, Err(words));
+}
+
+/// The count of the packet itself has a test of its own.
+#[test]
+fn any_count_of_the_packet_that_goes_back_will_do() {
+    let before = coming(release_of(NAMED.0), None);
+    let mut after = sent_back(&before);
+    for count in [0, 1, 2, 255] {
+        after.wire[2].circled = count;
+        says(&before, Handling::NoAgent, &after, Ok(()));
+    }
 }
 
 #[test]

@@ -32,7 +32,7 @@ const TAKE_LINES: &str = r#"
  "reason":{"kind":"ACQUIRE","index":0,"machine":null,"ahead":null}},IDLE,IDLE,IDLE,
  IDLE,IDLE,IDLE,IDLE,IDLE,IDLE,IDLE,IDLE,IDLE,IDLE,IDLE,IDLE],
  "wire":[{"kind":"ACQUIRE","to":null,"client":0,"mode":3,
- "granted":false,"rejected":false,"agent":null}]},
+ "granted":false,"rejected":false,"circled":0,"agent":null}]},
  "counts":{"agents":0,"marked":0}}
 {"n":2,"kind":"deliver","lock":0,"index":0,"answer":0,"handling":null,"preference":0,"state":{
  "decider":{"mode":3,"machine":0,"incarnation":0,"writer":false},
@@ -41,7 +41,7 @@ const TAKE_LINES: &str = r#"
  "reason":{"kind":"GRANT","index":0,"machine":null,"ahead":null}},IDLE,IDLE,IDLE,
  IDLE,IDLE,IDLE,IDLE,IDLE,IDLE,IDLE,IDLE,IDLE,IDLE,IDLE,IDLE],
  "wire":[{"kind":"GRANT","to":0,"client":0,"mode":3,
- "granted":false,"rejected":false,
+ "granted":false,"rejected":false,"circled":0,
  "agent":{"mode":3,"holders":[],"queue":[],"incarnation":0}}]},
  "counts":{"agents":1,"marked":0}}
 {"n":3,"kind":"deliver","lock":0,"index":0,"answer":0,"handling":null,"preference":0,"state":{
@@ -68,7 +68,7 @@ const SHARE_LINES: &str = r#"
  "reason":{"kind":"ACQUIRE","index":0,"machine":null,"ahead":null}},IDLE,IDLE,IDLE,
  IDLE,IDLE,IDLE,IDLE,IDLE,IDLE,IDLE,IDLE],
  "wire":[{"kind":"ACQUIRE","to":null,"client":4,"mode":3,
- "granted":false,"rejected":false,"agent":null}]},
+ "granted":false,"rejected":false,"circled":0,"agent":null}]},
  "counts":{"agents":1,"marked":0}}
 {"n":5,"kind":"deliver","lock":0,"index":0,"answer":0,"handling":null,"preference":0,"state":{
  "decider":{"mode":3,"machine":0,"incarnation":1,"writer":false},
@@ -78,9 +78,9 @@ const SHARE_LINES: &str = r#"
  "reason":{"kind":"GRANT","index":0,"machine":null,"ahead":null}},IDLE,IDLE,IDLE,
  IDLE,IDLE,IDLE,IDLE,IDLE,IDLE,IDLE,IDLE],
  "wire":[{"kind":"GRANT","to":1,"client":4,"mode":3,
- "granted":false,"rejected":false,"agent":null},
+ "granted":false,"rejected":false,"circled":0,"agent":null},
  {"kind":"ACQUIRE","to":0,"client":4,"mode":3,
- "granted":true,"rejected":false,"agent":null}]},
+ "granted":true,"rejected":false,"circled":0,"agent":null}]},
  "counts":{"agents":1,"marked":1}}
 "#;
 
@@ -140,7 +140,7 @@ fn a_line_in_full() {
         r#""reason":{"kind":"ACQUIRE","index":0,"machine":null,"ahead":null}},"#,
         r#"{"status":"idle","mode":null,"reason":null}],"#,
         r#""wire":[{"kind":"ACQUIRE","to":null,"client":14,"mode":2,"#,
-        r#""granted":false,"rejected":false,"agent":null}]},"#,
+        r#""granted":false,"rejected":false,"circled":0,"agent":null}]},"#,
         r#""counts":{"agents":0,"marked":0}}"#,
         "\n",
         r#"{"end":"end","answer":0,"records":1,"handling":null,"preference":0,"drains":["#,
@@ -166,7 +166,7 @@ const EXAMPLE_TAIL_LINES: &str = r#"
  "clients":[IDLE,IDLE,IDLE,IDLE,IDLE,IDLE,IDLE,IDLE,
  IDLE,IDLE,IDLE,IDLE,IDLE,IDLE,IDLE,IDLE],
  "wire":[{"kind":"FREE","to":null,"client":null,"mode":null,
- "granted":false,"rejected":false,
+ "granted":false,"rejected":false,"circled":0,
  "agent":{"mode":3,"holders":[],"queue":[],"incarnation":0}}]},
  "counts":{"agents":1,"marked":0}}
 {"n":5,"kind":"deliver","lock":0,"index":0,"answer":0,"handling":null,"preference":0,"state":{
@@ -213,11 +213,11 @@ const EARLY_FREE_LINES: &str = r#"
  "reason":{"kind":"GRANT","index":0,"machine":null,"ahead":null}},IDLE,IDLE,IDLE,
  IDLE,IDLE,IDLE,IDLE,IDLE,IDLE,IDLE,IDLE],
  "wire":[{"kind":"GRANT","to":1,"client":4,"mode":3,
- "granted":false,"rejected":false,"agent":null},
+ "granted":false,"rejected":false,"circled":0,"agent":null},
  {"kind":"ACQUIRE","to":0,"client":4,"mode":3,
- "granted":true,"rejected":false,"agent":null},
+ "granted":true,"rejected":false,"circled":0,"agent":null},
  {"kind":"FREE","to":null,"client":null,"mode":null,
- "granted":false,"rejected":false,
+ "granted":false,"rejected":false,"circled":0,
  "agent":{"mode":3,"holders":[],"queue":[],"incarnation":0}}]},
  "counts":{"agents":1,"marked":1}}
 {"n":7,"kind":"deliver","lock":0,"index":2,"answer":0,"handling":null,"preference":0,"state":{
@@ -227,11 +227,11 @@ const EARLY_FREE_LINES: &str = r#"
  "reason":{"kind":"GRANT","index":0,"machine":null,"ahead":null}},IDLE,IDLE,IDLE,
  IDLE,IDLE,IDLE,IDLE,IDLE,IDLE,IDLE,IDLE],
  "wire":[{"kind":"GRANT","to":1,"client":4,"mode":3,
- "granted":false,"rejected":false,"agent":null},
+ "granted":false,"rejected":false,"circled":0,"agent":null},
  {"kind":"ACQUIRE","to":0,"client":4,"mode":3,
- "granted":true,"rejected":false,"agent":null},
+ "granted":true,"rejected":false,"circled":0,"agent":null},
  {"kind":"FREE","to":0,"client":null,"mode":null,
- "granted":false,"rejected":true,
+ "granted":false,"rejected":true,"circled":0,
  "agent":{"mode":3,"holders":[],"queue":[],"incarnation":0}}]},
  "counts":{"agents":1,"marked":1}}
 {"end":"end","answer":0,"records":7,"handling":null,"preference":0,"drains":[
@@ -259,7 +259,7 @@ const TWO_HOLDERS_LINES: &str = r#"
  {"status":"holding","mode":3,"reason":null},IDLE,IDLE,IDLE,
  IDLE,IDLE,IDLE,IDLE,IDLE,IDLE,IDLE,IDLE],
  "wire":[{"kind":"ACQUIRE","to":0,"client":4,"mode":3,
- "granted":true,"rejected":false,"agent":null}]},
+ "granted":true,"rejected":false,"circled":0,"agent":null}]},
  "counts":{"agents":1,"marked":1}}
 {"n":7,"kind":"deliver","lock":0,"index":0,"answer":0,"handling":"taken","preference":0,"state":{
  "decider":{"mode":3,"machine":0,"incarnation":1,"writer":false},
@@ -275,7 +275,7 @@ const TWO_HOLDERS_LINES: &str = r#"
  "clients":[{"status":"holding","mode":3,"reason":null},IDLE,IDLE,IDLE,IDLE,IDLE,IDLE,IDLE,
  IDLE,IDLE,IDLE,IDLE,IDLE,IDLE,IDLE,IDLE],
  "wire":[{"kind":"RELEASE","to":null,"client":4,"mode":null,
- "granted":false,"rejected":false,"agent":null}]},
+ "granted":false,"rejected":false,"circled":0,"agent":null}]},
  "counts":{"agents":1,"marked":0}}
 {"end":"end","answer":0,"records":8,"handling":"taken","preference":0,"drains":[
  {"lock":0,"answer":0,"count":4,"handling":"taken"},REST]}
@@ -302,11 +302,11 @@ const REJECTED_GRANT_LINES: &str = r#"
  {"status":"waiting","mode":2,
  "reason":{"kind":"rejected GRANT","index":2,"machine":null,"ahead":null}},IDLE,IDLE,IDLE,IDLE,IDLE,IDLE,IDLE],
  "wire":[{"kind":"GRANT","to":1,"client":4,"mode":3,
- "granted":false,"rejected":false,"agent":null},
+ "granted":false,"rejected":false,"circled":0,"agent":null},
  {"kind":"ACQUIRE","to":0,"client":4,"mode":3,
- "granted":true,"rejected":false,"agent":null},
+ "granted":true,"rejected":false,"circled":0,"agent":null},
  {"kind":"GRANT","to":0,"client":8,"mode":2,
- "granted":false,"rejected":true,
+ "granted":false,"rejected":true,"circled":0,
  "agent":{"mode":3,"holders":[],"queue":[],"incarnation":0}}]},
  "counts":{"agents":1,"marked":1}}
 {"n":11,"kind":"deliver","lock":0,"index":2,"answer":0,"handling":null,"preference":0,"state":{
@@ -318,9 +318,9 @@ const REJECTED_GRANT_LINES: &str = r#"
  {"status":"waiting","mode":2,
  "reason":{"kind":"queue","index":null,"machine":0,"ahead":0}},IDLE,IDLE,IDLE,IDLE,IDLE,IDLE,IDLE],
  "wire":[{"kind":"GRANT","to":1,"client":4,"mode":3,
- "granted":false,"rejected":false,"agent":null},
+ "granted":false,"rejected":false,"circled":0,"agent":null},
  {"kind":"ACQUIRE","to":0,"client":4,"mode":3,
- "granted":true,"rejected":false,"agent":null}]},
+ "granted":true,"rejected":false,"circled":0,"agent":null}]},
  "counts":{"agents":1,"marked":1}}
 {"end":"end","answer":0,"records":11,"handling":"taken","preference":0,"drains":[
  {"lock":0,"answer":0,"count":9,"handling":"taken"},REST]}
@@ -364,7 +364,7 @@ const QUEUE_LINES: &str = r#"
  "reason":{"kind":"queue","index":0,"machine":null,"ahead":0}},IDLE,IDLE,IDLE,
  IDLE,IDLE,IDLE,IDLE],
  "wire":[{"kind":"GRANT","to":null,"client":1,"mode":3,
- "granted":false,"rejected":false,
+ "granted":false,"rejected":false,"circled":0,
  "agent":{"mode":2,"holders":[],"queue":[{"client":8,"mode":2}],"incarnation":0}}]},
  "counts":{"agents":1,"marked":0}}
 {"end":"end","answer":0,"records":8,"handling":"taken","preference":0,"drains":[
@@ -406,11 +406,11 @@ const AWAY_FROM_ZERO_LINES: &str = r#"
  {"status":"waiting","mode":2,
  "reason":{"kind":"queue","index":2,"machine":null,"ahead":1}}],
  "wire":[{"kind":"ACQUIRE","to":null,"client":4,"mode":3,
- "granted":false,"rejected":false,"agent":null},
+ "granted":false,"rejected":false,"circled":0,"agent":null},
  {"kind":"ACQUIRE","to":null,"client":8,"mode":2,
- "granted":false,"rejected":false,"agent":null},
+ "granted":false,"rejected":false,"circled":0,"agent":null},
  {"kind":"GRANT","to":null,"client":13,"mode":2,
- "granted":false,"rejected":false,
+ "granted":false,"rejected":false,"circled":0,
  "agent":{"mode":2,"holders":[],
  "queue":[{"client":14,"mode":3},{"client":15,"mode":2}],"incarnation":0}}]},
  "counts":{"agents":1,"marked":0}}
@@ -470,7 +470,7 @@ const REFUSED_LINES: &str = r#"
  "reason":{"kind":"ACQUIRE","index":0,"machine":null,"ahead":null}},IDLE,IDLE,IDLE,
  IDLE,IDLE,IDLE,IDLE,IDLE,IDLE,IDLE,IDLE,IDLE,IDLE,IDLE,IDLE],
  "wire":[{"kind":"ACQUIRE","to":null,"client":0,"mode":3,
- "granted":false,"rejected":false,"agent":null}]},
+ "granted":false,"rejected":false,"circled":0,"agent":null}]},
  "counts":{"agents":0,"marked":0}}
 {"n":3,"kind":"release","lock":7,"machine":4,"task":9,"answer":2,"handling":null,"preference":0,"state":{
  "decider":{"mode":0,"machine":null,"incarnation":0,"writer":false},
@@ -479,7 +479,7 @@ const REFUSED_LINES: &str = r#"
  "reason":{"kind":"ACQUIRE","index":0,"machine":null,"ahead":null}},IDLE,IDLE,IDLE,
  IDLE,IDLE,IDLE,IDLE,IDLE,IDLE,IDLE,IDLE,IDLE,IDLE,IDLE,IDLE],
  "wire":[{"kind":"ACQUIRE","to":null,"client":0,"mode":3,
- "granted":false,"rejected":false,"agent":null}]},
+ "granted":false,"rejected":false,"circled":0,"agent":null}]},
  "counts":{"agents":0,"marked":0}}
 {"end":"end","answer":0,"records":3,"handling":null,"preference":0,"drains":[
  {"lock":0,"answer":0,"count":0,"handling":null},{"lock":1,"answer":0,"count":0,"handling":null},
@@ -611,9 +611,9 @@ const STILL_NAMED_LINES: &str = r#"
  "clients":[{"status":"holding","mode":3,"reason":null},IDLE,IDLE,IDLE,
  IDLE,IDLE,IDLE,IDLE,IDLE,IDLE,IDLE,IDLE,IDLE,IDLE,IDLE,IDLE],
  "wire":[{"kind":"ACQUIRE","to":0,"client":4,"mode":3,
- "granted":true,"rejected":false,"agent":null},
+ "granted":true,"rejected":false,"circled":0,"agent":null},
  {"kind":"RELEASE","to":null,"client":4,"mode":null,
- "granted":false,"rejected":false,"agent":null}]},
+ "granted":false,"rejected":false,"circled":1,"agent":null}]},
  "counts":{"agents":1,"marked":1}}
 {"end":"end","answer":0,"records":10,"handling":"not a holder","preference":0,"drains":[
  {"lock":0,"answer":0,"count":5,"handling":"taken"},REST]}
@@ -739,6 +739,65 @@ fn handling_before_a_bad_record_is_given() {
     assert_last_lines(&bytes, end);
 }
 
+const CIRCLED_LINES: &str = r#"
+{"n":5,"kind":"deliver","lock":0,"index":1,"answer":0,"handling":"no agent","preference":0,"state":{
+ "decider":{"mode":2,"machine":0,"incarnation":0,"writer":false},
+ "agents":[null,null,null,null],
+ "clients":[{"status":"waiting","mode":2,
+ "reason":{"kind":"GRANT","index":0,"machine":null,"ahead":null}},IDLE,IDLE,IDLE,
+ {"status":"waiting","mode":2,
+ "reason":{"kind":"ACQUIRE","index":1,"machine":null,"ahead":null}},IDLE,IDLE,IDLE,
+ IDLE,IDLE,IDLE,IDLE,IDLE,IDLE,IDLE,IDLE],
+ "wire":[{"kind":"GRANT","to":0,"client":0,"mode":2,
+ "granted":false,"rejected":false,"circled":0,
+ "agent":{"mode":2,"holders":[],"queue":[],"incarnation":0}},
+ {"kind":"ACQUIRE","to":null,"client":4,"mode":2,
+ "granted":false,"rejected":false,"circled":1,"agent":null}]},
+ "counts":{"agents":1,"marked":0}}
+{"end":"end","answer":0,"records":5,"handling":"no agent","preference":0,"drains":[
+ {"lock":0,"answer":0,"count":8,"handling":"taken"},REST]}
+"#;
+
+/// The ACQUIRE has circled once. The drain goes as above.
+#[test]
+fn request_that_came_back() {
+    assert_last_lines(&EARLY, CIRCLED_LINES);
+}
+
+/// After D2, as `BUSY` begins; then the RELEASE of 1/0 goes to machine 0 and back 300 times before the ACQUIRE is taken. Where
+/// it goes, and its count, after some of the records.
+#[test]
+fn release_that_circles_300_times() {
+    let circles = [6, 0, 3, 0, 0, 1].repeat(600);
+    let taken = [6, 0, 3, 0, 0, 0].repeat(3);
+    let bytes = [&TAKE[..], &SHARE, &BUSY[..13], &circles, &taken].concat();
+    let text = inspected(&bytes);
+    let lines: Vec<&str> = text.lines().collect();
+    assert_eq!(lines.len(), 611);
+    for (record, to, count) in [
+        (7, "null", 0),
+        (8, "0", 0),
+        (9, "null", 1),
+        (10, "0", 1),
+        (513, "null", 253),
+        (515, "null", 254),
+        (516, "0", 254),
+        (517, "null", 255),
+        (518, "0", 255),
+        (519, "null", 255),
+        (607, "null", 255),
+        (608, "null", 255),
+        (609, "0", 255),
+    ] {
+        let line = lines[record - 1];
+        let message = format!(r#"{{"kind":"RELEASE","to":{to},"client":4,"mode":null,"#);
+        let rest = format!(r#""granted":false,"rejected":false,"circled":{count},"agent":null}}]"#);
+        assert!(line.starts_with(&format!(r#"{{"n":{record},"#)), "{line}");
+        assert!(line.contains(&format!("{message}{rest}")), "{line}");
+    }
+    assert!(lines[609].contains(r#""handling":"taken""#) && lines[609].contains(r#""wire":[]"#));
+}
+
 /// A refused record and one that has no handling come behind the one that has.
 #[test]
 fn handling_is_given_at_the_end() {
@@ -804,7 +863,7 @@ const BEHIND_LINES: &str = r#"
  "reason":{"kind":"ACQUIRE","index":0,"machine":null,"ahead":null}},IDLE,IDLE,IDLE,
  IDLE,IDLE,IDLE,IDLE,IDLE,IDLE,IDLE,IDLE],
  "wire":[{"kind":"ACQUIRE","to":null,"client":4,"mode":2,
- "granted":false,"rejected":false,"agent":null}]},
+ "granted":false,"rejected":false,"circled":0,"agent":null}]},
  "counts":{"agents":1,"marked":0}}
 {"n":5,"kind":"deliver","lock":0,"index":0,"answer":0,"handling":null,"preference":1,"state":{
  "decider":{"mode":3,"machine":0,"incarnation":0,"writer":true},
@@ -814,7 +873,7 @@ const BEHIND_LINES: &str = r#"
  "reason":{"kind":"ACQUIRE","index":0,"machine":null,"ahead":null}},IDLE,IDLE,IDLE,
  IDLE,IDLE,IDLE,IDLE,IDLE,IDLE,IDLE,IDLE],
  "wire":[{"kind":"ACQUIRE","to":0,"client":4,"mode":2,
- "granted":false,"rejected":false,"agent":null}]},
+ "granted":false,"rejected":false,"circled":0,"agent":null}]},
  "counts":{"agents":1,"marked":0}}
 {"n":6,"kind":"deliver","lock":0,"index":0,"answer":0,"handling":"taken","preference":1,"state":{
  "decider":{"mode":3,"machine":0,"incarnation":0,"writer":true},
@@ -849,7 +908,7 @@ const BEHIND_LINES: &str = r#"
  "reason":{"kind":"ACQUIRE","index":0,"machine":null,"ahead":null}},IDLE,IDLE,IDLE,
  IDLE,IDLE,IDLE,IDLE],
  "wire":[{"kind":"ACQUIRE","to":null,"client":8,"mode":3,
- "granted":false,"rejected":false,"agent":null}]},
+ "granted":false,"rejected":false,"circled":0,"agent":null}]},
  "counts":{"agents":1,"marked":0}}
 {"n":9,"kind":"deliver","lock":0,"index":0,"answer":0,"handling":null,"preference":1,"state":{
  "decider":{"mode":3,"machine":0,"incarnation":0,"writer":true},
@@ -863,7 +922,7 @@ const BEHIND_LINES: &str = r#"
  "reason":{"kind":"ACQUIRE","index":0,"machine":null,"ahead":null}},IDLE,IDLE,IDLE,
  IDLE,IDLE,IDLE,IDLE],
  "wire":[{"kind":"ACQUIRE","to":0,"client":8,"mode":3,
- "granted":false,"rejected":false,"agent":null}]},
+ "granted":false,"rejected":false,"circled":0,"agent":null}]},
  "counts":{"agents":1,"marked":0}}
 {"end":"end","answer":0,"records":9,"handling":"taken","preference":1,"drains":[
  {"lock":0,"answer":0,"count":14,"handling":"taken"},REST]}
@@ -901,9 +960,9 @@ fn readers_preference_of_the_same_transcript() {
  "reason":{"kind":"GRANT","index":0,"machine":null,"ahead":null}},IDLE,IDLE,IDLE,
  IDLE,IDLE,IDLE,IDLE],
  "wire":[{"kind":"GRANT","to":2,"client":8,"mode":3,
- "granted":false,"rejected":false,"agent":null},
+ "granted":false,"rejected":false,"circled":0,"agent":null},
  {"kind":"ACQUIRE","to":0,"client":8,"mode":3,
- "granted":true,"rejected":false,"agent":null}]},
+ "granted":true,"rejected":false,"circled":0,"agent":null}]},
  "counts":{"agents":1,"marked":1}}
 {"end":"end","answer":0,"records":9,"handling":"taken","preference":0,"drains":[
  {"lock":0,"answer":0,"count":11,"handling":"taken"},REST]}

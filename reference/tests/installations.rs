@@ -438,6 +438,7 @@ impl Met {
             address: Address::Machine(machine),
             rejected: false,
             agent: Some(_),
+            ..
         }) = packet
         {
             let agent = &cluster.locks[lock.index()].agents[machine.index()];

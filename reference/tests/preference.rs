@@ -3,20 +3,19 @@
 mod common;
 
 use common::*;
-use reference::digest::Digest;
 use reference::generator::Generator;
 use reference::model::{
     Address, Agent, ClientId, ClientStatus, Cluster, Decider, LockId, LockState, MachineId,
     Message, Mode, Owner, Packet, Preference, TaskId, LOCKS,
 };
 use reference::preferences::BehindWriter;
-use reference::random_calls::{Call, Profile, ACQUIRE, DELIVER, HAND_MADE, RELEASE};
+use reference::random_calls::{Call, Profile, ACQUIRE, DELIVER, HAND_MADE};
 use reference::random_runs::{fresh_clusters, random_run, Run};
 use reference::random_states::{hand_made_cluster, random_state};
 use reference::random_transcripts::{random_transcript, transcript_bytes};
 use reference::reasons::Reason;
 use reference::report::{Report, Tally};
-use reference::transcript::{listing, Record, Records};
+use reference::transcript::{listing, Records};
 use reference::{answer_number, Handling, Refusal, StepOutcome, DRAIN_LIMIT};
 use std::io::{BufRead, BufReader};
 use std::process::Stdio;
@@ -1212,24 +1211,13 @@ fn bit_of_a_reached_state_is_tested() {
     }
 }
 
-/// The line that stops a run from this state of all locks, tested as if it were a reached one.
-fn stopped(state: &LockState) -> String {
-    let mut cluster = fresh(WRITERS);
-    cluster.locks.fill(state.clone());
-    let mut written = Vec::new();
-    let mut report = Report::new(&mut written, false);
-    let run = Run::new("run", 4, HAND_MADE, Generator::new(4), cluster);
-    let stop = run.tested().finish(&mut report);
-    stop.expect_err("the run is stopped").to_string()
-}
-
 /// Seed 4 calls lock 4 or 5 first; nothing else is wrong there.
 #[test]
 fn run_stops_at_a_bit_that_is_set() {
     let mut state = LockState::default();
     state.decider.writer_waits = true;
     assert_eq!(state.check_counts(), Ok(()));
-    let line = stopped(&state);
+    let line = stopped(WRITERS, 4, &state);
     assert!(line.starts_with("run 4 step 1 lock "), "{line}");
     let words = ": the bit for a writer is set at a free lock";
     assert!(line.ends_with(words), "{line}");
@@ -1321,24 +1309,8 @@ impl Met {
     fn drain(&mut self, call: Call, cluster: &Cluster) {
         let mut cluster = cluster.clone();
         for _ in 0..DRAIN_LIMIT {
-            let Some(state) = cluster.locks.get(call.lock.index()) else {
+            let Some(step) = drain_step(&cluster, call) else {
                 return;
-            };
-            let holding =
-                |&c: &u8| matches!(state.clients[usize::from(c)], ClientStatus::Holding(_));
-            let lowest = (0..16).find(holding);
-            let (kind, number) = match (state.wire.is_empty(), lowest) {
-                (false, _) => (DELIVER, 0),
-                (true, Some(number)) => (RELEASE, number),
-                (true, None) => return,
-            };
-            let (machine, task) = (MachineId(number / 4), TaskId(number % 4));
-            let step = Call {
-                kind,
-                machine,
-                task,
-                index: 0,
-                ..call
             };
             if self.perform(step, &mut cluster).is_err() {
                 return;
@@ -1372,21 +1344,7 @@ fn met_by_transcript(seed: u64) -> Met {
     // A transcript that is too long is not run.
     let runs = bytes.len() <= 65_535;
     for record in Records::new(&bytes).map_while(Result::ok).filter(|_| runs) {
-        let nowhere = (MachineId(0), TaskId(0));
-        let (lock, (machine, task), mode, index) = match record {
-            Record::Acquire(lock, machine, task, mode) => (lock, (machine, task), mode, 0),
-            Record::Release(lock, machine, task) => (lock, (machine, task), 0, 0),
-            Record::Deliver(lock, index) => (lock, nowhere, 0, index),
-        };
-        let call = Call {
-            kind: record.kind() as u8,
-            lock,
-            machine,
-            task,
-            mode,
-            index,
-        };
-        let _ = met.perform(call, &mut cluster);
+        let _ = met.perform(call_of(record), &mut cluster);
     }
     met
 }
@@ -1434,23 +1392,11 @@ fn every_request_behind_a_writer_in_a_transcript_is_tested() {
     assert_eq!(Met::of(&tally_of(random_transcript, 1..=48)), met);
 }
 
-/// The digest of docs/random-runs.md, worked out once more.
-fn digest_of(start: u64, bytes: &[u8]) -> u64 {
-    let next = |h: u64, &byte: &u8| (h * 65_599 + u64::from(byte) + 1) % 4_294_967_291;
-    bytes.iter().fold(start, next)
-}
-
 /// The bytes of a fresh cluster: for each lock four of the decider, four agent slots, sixteen clients and the wire's length.
 fn fresh_bytes(preference: u8) -> Vec<u8> {
     let mut bytes = vec![preference];
     bytes.resize(1 + LOCKS * 25, 0);
     bytes
-}
-
-fn cluster_digest(start: u64, cluster: &Cluster) -> u64 {
-    let mut digest = Digest::new(start);
-    digest.cluster(cluster);
-    digest.value()
 }
 
 #[test]
@@ -1566,7 +1512,7 @@ fn hand_made_states_have_both_preferences_and_their_faults() {
             assert_eq!(state.decider.writer_waits, expected, "state {seed}");
         }
         // One lock, without any other fault.
-        if let [(fault @ (0 | 13 | 14 | 15), _)] = faults[..] {
+        if let [(fault @ (0 | 13 | 14), _)] = faults[..] {
             let malformed = fault == 13 || (fault == 14 && of_seed == 0);
             assert_eq!(!cluster.is_well_formed(), malformed, "state {seed}");
             let kind = match fault {

@@ -571,23 +571,11 @@ fn test_of_a_state_wants_one_reason() {
     says(&state, "client 2 waits with 0 reasons");
 }
 
-/// The line that stops a run from this state of all locks, tested as if it were a reached one.
-fn stopped(seed: u64, state: &LockState) -> String {
-    let mut cluster = Cluster::new();
-    cluster.locks.fill(state.clone());
-    let mut written = Vec::new();
-    let mut report = Report::new(&mut written, false);
-    let run = Run::new("run", seed, HAND_MADE, Generator::new(seed), cluster);
-    let stop = run.tested().finish(&mut report);
-    assert!(written.is_empty());
-    stop.expect_err("the run is stopped").to_string()
-}
-
 /// Nothing is wrong to count, but the wait has no end. Seed 4 calls lock 4 or 5 first.
 #[test]
 fn run_stops_at_a_wait_without_reason() {
     assert_eq!(waiting().check_counts(), Ok(()));
-    let line = stopped(4, &waiting());
+    let line = stopped(READERS, 4, &waiting());
     let (before, lock) = line.split_once(" lock ").expect("a lock");
     assert_eq!(before, "run 4 step 1");
     assert!(["4", "5"].contains(&&lock[..1]), "{line}");
@@ -598,10 +586,7 @@ fn run_stops_at_a_wait_without_reason() {
 #[test]
 fn run_stops_inside_a_drain() {
     let state = with_wire(&[plain(grant(OTHER, Mode::Shared), to(2))]);
-    let drains =
-        |outputs: [u64; 8]| outputs[0].is_multiple_of(64) && outputs[1] % 64 >= HAND_MADE.wild;
-    let seed = (1..1_000).find(|&seed| drains(Generator::new(seed).eight()));
-    let line = stopped(seed.expect("one step in 64 drains a lock"), &state);
+    let line = stopped(READERS, draining_seed(), &state);
     let words = ": drain step 1: client 5 waits with 0 reasons";
     assert!(line.ends_with(words), "{line}");
 }

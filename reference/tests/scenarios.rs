@@ -76,7 +76,8 @@ fn d6_early_release_goes_back() {
     let release = Message::Release {
         client: client(1, 0),
     };
-    assert_eq!(lock(&cluster).wire[1], plain(release, Address::Decider));
+    let back = with_count(1, plain(release, Address::Decider));
+    assert_eq!(lock(&cluster).wire[1], back);
     assert_eq!(holders(agent(&cluster, 0)), [client(0, 0).0]);
 }
 

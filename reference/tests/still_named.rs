@@ -76,6 +76,7 @@ fn d7_lasts_until_the_last_packet_is_taken() {
         accepted(&[deliver(&mut cluster, 0)]);
         let packet = Packet {
             address,
+            circled: 1,
             ..release_of(ClientId(4))
         };
         assert_eq!(lock(&cluster).wire, [packet]);

@@ -78,7 +78,7 @@ def agent_of(short):
 
 
 def packet_of(short):
-    blank = {"granted": False, "rejected": False}
+    blank = {"granted": False, "rejected": False, "circled": 0}
     whole = {field: short.get(field, blank.get(field)) for field in FORMS["packet"]}
     return {**whole, "agent": agent_of(short.get("agent"))}
 

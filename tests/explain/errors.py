@@ -2,7 +2,7 @@
 import json
 import pathlib
 
-from cases import cases_of, end_of, numbered, state_of
+from cases import cases_of, end_of, numbered, packet_of, state_of
 from desk.lines import fresh, shown
 from desk.reasons import reason
 
@@ -200,6 +200,10 @@ NOT_IN_FORM = [
         reason("queue", index=0), reason("queue", machine=0), reason("queue", ahead=0), reason("queue", index=0, machine=0, ahead=0),
         reason("GRANT", index=33), reason("queue", machine=4, ahead=0), reason("queue", machine=0, ahead=16), reason("GRANT", index=False)]),
     *(("client", {"status": status, "mode": mode, "reason": reason("GRANT", index=0)}) for status, mode in [("idle", None), ("holding", 3)]),
+    *(("packet", packet_of({"client": 0, **more})) for more in [
+        {"kind": "GRANT", "mode": 3, "circled": 1}, {"kind": "GRANT", "mode": 3, "agent": {"mode": 3}, "circled": 255},
+        {"kind": "FREE", "client": None, "agent": {"mode": 3}, "circled": 1}, {"kind": "RELEASE", "circled": 256}, {"kind": "RELEASE", "circled": -1},
+        {"kind": "RELEASE", "circled": True}, {"kind": "RELEASE", "circled": None}]),
 ]
 
 NO_LOCK = lines({**numbered(1, "deliver 7 0", 1), **shown(None)}, end_of("1 = 0 {}"))

@@ -16,6 +16,7 @@ fn plain(message: Message) -> Packet {
         message,
         to: Address::Decider,
         rejected: false,
+        circled: 0,
         carried,
     }
 }
@@ -54,12 +55,18 @@ fn addressed(p: Packet, k: u8) -> Packet {
         message,
         to: Address::Machine(MachineId(k)),
         rejected: p.rejected,
+        circled: p.circled,
         carried,
     }
 }
 
 fn rejected(mut p: Packet) -> Packet {
     p.rejected = true;
+    p
+}
+
+fn circled(mut p: Packet, n: u8) -> Packet {
+    p.circled = n;
     p
 }
 
@@ -73,7 +80,7 @@ pub fn made(p: Packet, x: AgentSlot, s: &[u8], n: Numbers) -> Packet {
     let k = word(
         s,
         n.count,
-        b"2ACQUIRE 2MARKED 2GRANT 1RELEASE 0FREE 1to 0rejected 0carries",
+        b"2ACQUIRE 2MARKED 2GRANT 1RELEASE 0FREE 1to 0rejected 0carries 1circled",
     );
     match k {
         0 => acquire(n.first, n.second, false),
@@ -84,6 +91,7 @@ pub fn made(p: Packet, x: AgentSlot, s: &[u8], n: Numbers) -> Packet {
         5 => addressed(p, n.first),
         6 => rejected(p),
         7 => carrying(p, x),
+        8 => circled(p, n.first),
         _ => p,
     }
 }

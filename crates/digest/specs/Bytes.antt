@@ -1,5 +1,5 @@
 -- The digest of bytes and the bytes of a cluster, as docs/random-runs.md lays them down.
-use mathlib.Core.Bool.{Bool, true, false}
+use mathlib.Core.Bool.{Bool}
 use mathlib.Core.List.{List, [], _∷_, _++_}
 use Prim.Native.Nat.{ℕ, _+_, _*_, _%_}
 use Rattle.model.specs.declared.Owner.{Owner}
@@ -8,8 +8,6 @@ use Rattle.model.specs.declared.{Decider.Decider, Waiter.Waiter, Queue.Queue, A
 use Rattle.model.specs.declared.Mode.the-variants.{Exclusive, Shared}
 use Rattle.model.specs.declared.Address.{Address}
 use Rattle.model.specs.declared.Address.the-variants.{Decider as ToDecider, Machine as ToMachine}
-use Rattle.model.specs.declared.Message.{Message}
-use Rattle.model.specs.declared.Message.the-variants.{Free, Acquire, Grant, Release}
 use Rattle.model.specs.declared.Status.{Status}
 use Rattle.model.specs.declared.Status.the-variants.{Idle, Waiting, Holding}
 use Rattle.model.specs.declared.{Found.Found, Found.the-variants.{Nowhere, At}}
@@ -18,6 +16,7 @@ use Rattle.model.specs.declared.Handling.the-variants.{None, NoAgent, NotHolder
 use Rattle.model.specs.declared.{Packet.Packet, Wire.Wire, ClientState.ClientState, LockState.LockState, Cluster.Cluster}
 use Rattle.model.specs.Lists.{pick}
 use Rattle.model.specs.States.{modeNumber, waiters, packets}
+use Rattle.model.specs.History.{messageNumbers}
 
 -- the digest h goes on over bytes
 unfoldable pub digestOf : ℕ → List ℕ → ℕ
@@ -30,8 +29,7 @@ each f [] = []
 each f (x ∷ xs) = f x ++ each f xs
 
 abbrev pub flagNumber : Bool → ℕ
-flagNumber true = 1
-flagNumber false = 0
+flagNumber b = pick b 1 0
 
 abbrev pub flagBytes : Bool → List ℕ
 flagBytes b = flagNumber b ∷ []
@@ -67,19 +65,13 @@ statusNumber (Holding Shared) = 7
 unfoldable pub clientBytes : ClientState → List ℕ
 clientBytes c = statusNumber (c .status) ∷ []
 
--- item 4: kind, client, mode, granted; address; rejected; agent slot
-abbrev pub messageBytes : Message → List ℕ
-messageBytes (Acquire c m g) = 1 ∷ c .0 ∷ modeNumber m ∷ flagNumber g ∷ []
-messageBytes (Grant c m) = 2 ∷ c .0 ∷ modeNumber m ∷ 0 ∷ []
-messageBytes (Release c) = 3 ∷ c .0 ∷ 0 ∷ 0 ∷ []
-messageBytes Free = 4 ∷ 0 ∷ 0 ∷ 0 ∷ []
-
+-- item 4: the message's numbers; address; rejected, count; agent slot
 abbrev pub addressBytes : Address → List ℕ
 addressBytes ToDecider = 0 ∷ 0 ∷ []
 addressBytes (ToMachine k) = 1 ∷ k .0 ∷ []
 
 unfoldable pub packetBytes : Packet → List ℕ
-packetBytes p = messageBytes (p .message) ++ (addressBytes (p .to) ++ (flagNumber (p .rejected) ∷ slotBytes (p .carried)))
+packetBytes p = messageNumbers (p .message) ++ (addressBytes (p .to) ++ (flagNumber (p .rejected) ∷ p .circled ∷ slotBytes (p .carried)))
 
 unfoldable pub wireBytes : Wire → List ℕ
 wireBytes w = w .len ∷ each packetBytes (packets w)

@@ -6,8 +6,9 @@ ghost use Rattle.model.specs.declared.Status.the-variants.{Holding};
 ghost use Rattle.model.specs.declared.ReasonAnswer.the-variants.{Because};
 ghost use Rattle.model.specs.States.{modeNumber};
 ghost use Rattle.model.specs.Reasons.{reasonNumber, reasonValues};
+ghost use Rattle.model.specs.History.{messageNumbers};
 ghost use Rattle.digest.specs.Bytes.{digestOf, each, flagNumber, flagBytes, ownerBytes, deciderBytes, waiterBytes, queueBytes, agentBytes, slotBytes};
-ghost use Rattle.digest.specs.Bytes.{statusNumber, clientBytes, messageBytes, addressBytes, packetBytes, wireBytes, lockBytes, clusterBytes};
+ghost use Rattle.digest.specs.Bytes.{statusNumber, clientBytes, addressBytes, packetBytes, wireBytes, lockBytes, clusterBytes};
 ghost use Rattle.digest.specs.Bytes.{handlingNumber, foundBytes};
 use model::Address;
 use model::Agent;
@@ -203,7 +204,7 @@ fn clients(h: u32, a: [ClientState; CLIENTS]) -> u32
 
 // ---- item 4
 fn message(h: u32, m: Message) -> u32
-    ensures { λ r. ⌜ r ≡ digestOf h (messageBytes m) ⌝ }
+    ensures { λ r. ⌜ r ≡ digestOf h (messageNumbers m) ⌝ }
 {
     match m {
         Message::Acquire {
@@ -232,7 +233,8 @@ fn packet(h: u32, p: Packet) -> u32
     let m = p.message;
     let t = p.to;
     let x = p.carried;
-    agent_slot(byte(address(message(h, m), t), flag_number(p.rejected)), x)
+    let g = address(message(h, m), t);
+    agent_slot(two(g, flag_number(p.rejected), p.circled), x)
 }
 
 fn first_packets(h: u32, a: [Packet; WIRE_CAPACITY], n: u8) -> u32

@@ -30,8 +30,8 @@ ghost use Rattle.model.specs.Lists.{all};
 ghost use Rattle.model.specs.States.{locks, machines, clients, queueCapacity, wireCapacity, isShared};
 ghost use Rattle.model.specs.declared.Message.the-variants.{Free};
 ghost use Rattle.model.specs.WellFormed.{clientInRange, ownerInRange, deciderFormed, addressInRange, shaped, isBlankWaiter, distinct, waiterInRange};
-ghost use Rattle.model.specs.WellFormed.{queueFormed, agentFormed, isBlankAgent, slotFormed, toDecider, messageFormed, packetFormed, isFree, isBlankPacket};
-ghost use Rattle.model.specs.WellFormed.{wireFormed, lockFormed, wellFormed};
+ghost use Rattle.model.specs.WellFormed.{queueFormed, agentFormed, isBlankAgent, slotFormed, toDecider, messageFormed, circledFormed, packetFormed, isFree};
+ghost use Rattle.model.specs.WellFormed.{isBlankPacket, wireFormed, lockFormed, wellFormed};
 
 // ---- blank slots
 fn is_exclusive(m: Mode) -> bool
@@ -124,7 +124,7 @@ fn is_blank_packet(p: Packet) -> bool
     let free = is_free(m);
     let at_decider = to_decider(t);
     let blank = is_blank_agent(x.agent);
-    free & (at_decider & (!p.rejected & (!x.present & blank)))
+    free & (at_decider & (!p.rejected & ((p.circled == 0) & (!x.present & blank))))
 }
 
 // ---- a queue and an agent
@@ -239,6 +239,22 @@ fn message_formed(m: Message, carries: bool, rejected: bool, t: Address) -> bool
     }
 }
 
+// A GRANT and a FREE do not circle.
+fn circled_formed(m: Message, n: u8) -> bool
+    ensures { λ r. ⌜ r ≡ circledFormed m n ⌝ }
+{
+    match m {
+        Message::Free => n == 0,
+        Message::Acquire {
+            client: _,
+            mode: _,
+            granted: _,
+        } => true,
+        Message::Grant { client: _, mode: _ } => n == 0,
+        Message::Release { client: _ } => true,
+    }
+}
+
 fn packet_formed(p: Packet) -> bool
     ensures { λ r. ⌜ r ≡ packetFormed p ⌝ }
 {
@@ -246,9 +262,10 @@ fn packet_formed(p: Packet) -> bool
     let t = p.to;
     let x = p.carried;
     let message = message_formed(m, x.present, p.rejected, t);
+    let circled = circled_formed(m, p.circled);
     let address = address_in_range(t);
     let carried = slot_formed(x);
-    message & (address & carried)
+    message & (circled & (address & carried))
 }
 
 // ---- a wire

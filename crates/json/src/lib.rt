@@ -276,6 +276,13 @@ fn put_about(out: &mut [u8], at: usize, m: Message) -> usize {
     }
 }
 
+// What became of the packet on its way.
+fn put_way(out: &mut [u8], at: usize, rejected: bool, circled: u8) -> usize {
+    let k = put_text(out, at, b",\"rejected\":");
+    let k = put_bool(out, k, rejected);
+    put_field(out, k, b",\"circled\":", circled as u16)
+}
+
 fn put_packet(out: &mut [u8], at: usize, p: Packet) -> usize {
     let m = p.message;
     let t = p.to;
@@ -283,8 +290,7 @@ fn put_packet(out: &mut [u8], at: usize, p: Packet) -> usize {
     let k = put_kind(out, at, m);
     let k = put_address(out, k, t);
     let k = put_about(out, k, m);
-    let k = put_text(out, k, b",\"rejected\":");
-    let k = put_bool(out, k, p.rejected);
+    let k = put_way(out, k, p.rejected, p.circled);
     let k = put_text(out, k, b",\"agent\":");
     let k = put_slot(out, k, s);
     put_text(out, k, b"}")

@@ -14,7 +14,7 @@ use Rattle.laws.specs.Names.{Queue, Agent, AgentSlot, Packet, Wire, Lock
 use Rattle.model.specs.States.{blankPacket, blankWaiter, packets, agentOn, noAgent, newAgent, queueOf, noHolders, isShared, freshLock, lockIn, locks, machines}
 use Rattle.model.specs.States.{clients, queueCapacity, wireCapacity, preferences}
 use Rattle.model.specs.WellFormed.{shaped, isBlankWaiter, distinct, queueFormed, agentFormed, isBlankAgent, slotBy, slotFormed, isFree, toDecider}
-use Rattle.model.specs.WellFormed.{isBlankPacket, messageFormed, addressInRange, packetFormed, wireFormed, deciderFormed, lockFormed, wellFormed}
+use Rattle.model.specs.WellFormed.{isBlankPacket, messageFormed, circledFormed, addressInRange, packetFormed, wireFormed, deciderFormed, lockFormed, wellFormed}
 use Rattle.model.specs.Calls.{packetAt}
 use Rattle.laws.specs.Tests.{and-left, and-right}
 use Rattle.laws.specs.Lists.{getD-any, all-at, all-getD, all-same, Canonical}
@@ -81,12 +81,14 @@ packet-blank p e =
     let e1 = and-right (isFree (p .message)) _ e in
     let e2 = and-right (toDecider (p .to)) _ e1 in
     let e3 = and-right (not (p .rejected)) _ e2 in
+    let e4 = and-right (eqb (p .circled) 0) _ e3 in
     let m : p .message ≡ Free = free-of (p .message) (and-left _ _ e) in
     let t : p .to ≡ ToDecider = decider-of (p .to) (and-left _ _ e1) in
     let r : p .rejected ≡ false = not-true (p .rejected) (and-left _ _ e2) in
-    let c : p .carried .present ≡ false = not-true (p .carried .present) (and-left _ _ e3) in
-    let a : p .carried .agent ≡ newAgent Exclusive = agent-blank (p .carried .agent) (and-right (not (p .carried .present)) _ e3) in
-    rw (m, t, r, c, a)
+    let n : p .circled ≡ 0 = eqb-true (p .circled) 0 (and-left _ _ e3) in
+    let c : p .carried .present ≡ false = not-true (p .carried .present) (and-left _ _ e4) in
+    let a : p .carried .agent ≡ newAgent Exclusive = agent-blank (p .carried .agent) (and-right (not (p .carried .present)) _ e4) in
+    rw (m, t, r, n, c, a)
 
 pub wire-canonical : (w : Wire) → wireFormed w ≡ true → CanonicalWire w
 unfolding wireFormed
@@ -121,11 +123,12 @@ abbrev pub slotIn : Bool → Packet → AgentSlot
 slotIn x p = record { present = x; agent = p .carried .agent }
 
 abbrev pub inParts : Message → Address → Bool → Bool → Packet → Packet
-inParts m t b x p = record { message = m; to = t; rejected = b; carried = slotIn x p }
+inParts m t b x p = record { message = m; to = t; rejected = b; circled = p .circled; carried = slotIn x p }
 
 -- ---- the parts of a well-formed packet
 pub record Whole (p : Packet) : Type 0 where
   pub message : messageFormed (p .message) (p .carried .present) (p .rejected) (p .to) ≡ true
+  pub circled : circledFormed (p .message) (p .circled) ≡ true
   pub address : addressInRange (p .to) ≡ true
   pub carried : slotFormed (p .carried) ≡ true
 
@@ -133,7 +136,8 @@ pub whole-packet : (p : Packet) → packetFormed p ≡ true → Whole p
 unfolding packetFormed
 whole-packet p e =
     let e1 = and-right (messageFormed (p .message) (p .carried .present) (p .rejected) (p .to)) _ e in
-    record { message = and-left _ _ e; address = and-left _ _ e1; carried = and-right (addressInRange (p .to)) _ e1 }
+    let e2 = and-right (circledFormed (p .message) (p .circled)) _ e1 in
+    record { message = and-left _ _ e; circled = and-left _ _ e1; address = and-left _ _ e2; carried = and-right (addressInRange (p .to)) _ e2 }
 
 -- ---- the parts of a well-formed lock
 pub record Parts (n : ℕ) (s : LockState) : Type 0 where

@@ -25,7 +25,7 @@ use Rattle.laws.specs.Tests.{and-left, and-right, both, or-left, or-righ
 use Rattle.laws.specs.Lists.{all-append, all-removed, all-set, left-out, whole, sublist-all}
 use Rattle.laws.specs.Formed.{Fit, fit, new-fit, no-agent-formed, Whole, Parts, parts, agent-on, packet-at, inParts}
 use Rattle.laws.specs.Making.{machine-in-range, Line, line, line-sublist, line-end, line-front, fit-line, fit-holder, some-agent-formed}
-use Rattle.laws.specs.Making.{packet-formed, plain-whole, carrying-whole, resent-whole, wire-formed}
+use Rattle.laws.specs.Making.{packet-formed, plain-whole, carrying-whole, resent-whole, back-whole, wire-formed}
 use Rattle.laws.specs.Parting.{parting, sublists, length-joined}
 
 -- every packet sent is well formed
@@ -240,12 +240,12 @@ module _ (v : Site) (f : Set v) where
     sound-arrives : (m : Message) (b : Bool) → Whole (came m b) → Safe (arrives m v (came m b))
     unfolding arrives messageFormed
     sound-arrives (Acquire c m g) b w =
-        sound-acquire-arrives _ _ _ c m g (fit _ (f .slot)) (and-left (clientInRange c) _ (w .message)) (resent-whole w (w .message) refl)
+        sound-acquire-arrives _ _ _ c m g (fit _ (f .slot)) (and-left (clientInRange c) _ (w .message)) (back-whole w (w .message) refl)
     sound-arrives (Grant c m) b w =
         let q = fit _ (w .carried) in
         let h = and-left (clientInRange c) _ (w .message) in
         choice (p .rejected) (λ e. sound-rejected-arrives _ _ c m q h) (λ e. sound-grant-arrives _ b _ c m q h)
-    sound-arrives (Release c) b w = sound-release-arrives _ c (resent-whole w (w .message) refl)
+    sound-arrives (Release c) b w = sound-release-arrives _ c (back-whole w (w .message) refl)
     sound-arrives Free b w = sound-free-arrives (v .slot .present) _ (w .carried)
 
     sound-delivers : Whole p → Safe (delivers (p .to) v p)

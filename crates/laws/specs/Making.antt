@@ -9,12 +9,13 @@ use lib.Seq.{drop-append-seam}
 use lib.Dec.{eqb}
 use borrow.Author.Tests.{eqb-false, ltb-true, lt-ltb, le-leb, eq-eqb, ne-eqb, not-true}
 use Rattle.model.specs.Lists.{any, all, padded}
-use Rattle.laws.specs.Names.{ClientId, Mode, Address, Message, Waiter, Queue, Agent, Packet}
+use Rattle.laws.specs.Names.{ClientId, Mode, Address, ToDecider, Message, Free, Acquire, Grant, Release, Waiter, Queue, Agent, Packet}
 use Rattle.model.specs.States.{plain, blankWaiter, blankPacket, queueOf, waiters, wireOf, someAgent, noAgent, machineOf, machines, clients, queueCapacity}
 use Rattle.model.specs.States.{wireCapacity, carrying, resent}
 use Rattle.model.specs.WellFormed.{clientInRange, machineInRange, addressInRange, shaped, isBlankWaiter, isClient, distinct, waiterInRange, queueFormed}
-use Rattle.model.specs.WellFormed.{agentFormed, isBlankAgent, slotFormed, messageFormed, packetFormed, isBlankPacket, wireFormed}
+use Rattle.model.specs.WellFormed.{agentFormed, isBlankAgent, slotFormed, messageFormed, circledFormed, packetFormed, isBlankPacket, wireFormed}
 use Rattle.model.specs.Asking.{changed}
+use Rattle.model.specs.AtMachine.{oneMore, sentBack}
 use Rattle.laws.specs.Tests.{and-left, and-right, both, or-left, or-right}
 use Rattle.laws.specs.Lists.{take-padded, all-append, all-replicate, none-end, Sublist, empty, kept, left-out, sublist-length, sublist-all, sublist-none}
 use Rattle.laws.specs.Formed.{queue-canonical, Fit, no-agent-formed, Whole}
@@ -111,19 +112,30 @@ fit-holder {a} f i b n = record { all-clients = omega (arith, f .all-clients, le
 -- ---- a packet
 pub packet-formed : {p : Packet} → Whole p → packetFormed p ≡ true
 unfolding packetFormed
-packet-formed {p} w = rw (w .message, w .address, w .carried)
+packet-formed {p} w = rw (w .message, w .circled, w .address, w .carried)
 
--- the three ways in which a packet is made
+-- the three ways in which a packet is made: a new one has not circled
+new-circled : (m : Message) → circledFormed m 0 ≡ true
+new-circled (Acquire c n g) = refl
+new-circled (Grant c n) = refl
+new-circled (Release c) = refl
+new-circled Free = refl
+
 pub plain-whole : (m : Message) (t : Address) → messageFormed m false false t ≡ true → addressInRange t ≡ true → Whole (plain m t)
 unfolding noAgent
-plain-whole m t e h = record { message = e; address = h; carried = no-agent-formed }
+plain-whole m t e h = record { message = e; circled = new-circled m; address = h; carried = no-agent-formed }
 
 pub carrying-whole : {m : Message} {t : Address} {a : Agent} → messageFormed m true false t ≡ true → addressInRange t ≡ true → Fit a → Whole (carrying m t a)
-carrying-whole e h q = record { message = e; address = h; carried = some-agent-formed q }
+carrying-whole {m} e h q = record { message = e; circled = new-circled m; address = h; carried = some-agent-formed q }
 
 pub resent-whole : {p : Packet} {t : Address} {b : Bool} → Whole p → messageFormed (p .message) (p .carried .present) b t ≡ true
     → addressInRange t ≡ true → Whole (resent p t b)
-resent-whole w e h = record { message = e; address = h; carried = w .carried }
+resent-whole w e h = record { message = e; circled = w .circled; address = h; carried = w .carried }
+
+-- and a packet that a machine sends back
+pub back-whole : {p : Packet} → Whole p → messageFormed (p .message) (p .carried .present) (p .rejected) ToDecider ≡ true
+    → circledFormed (p .message) (oneMore (p .circled)) ≡ true → Whole (sentBack p)
+back-whole w e n = record { message = e; circled = n; address = refl; carried = w .carried }
 
 blank-packet : isBlankPacket blankPacket ≡ true
 unfolding isBlankPacket blankPacket noAgent isBlankAgent queueOf shaped padded isBlankWaiter

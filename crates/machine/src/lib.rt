@@ -43,8 +43,8 @@ ghost use lib.ListN.{take};
 ghost use Rattle.model.specs.States.{queueCapacity, waiters, someAgent};
 ghost use Rattle.model.specs.Changes.{withSlot, does};
 ghost use Rattle.model.specs.Asking.{withRoom};
-ghost use Rattle.model.specs.AtMachine.{sentBack, installs, requeued, grantArrives, rejectedGrantArrives, marked, unmarked, acquireArrives, releaseArrives};
-ghost use Rattle.model.specs.AtMachine.{freeArrives, arrives, atMachine, handles};
+ghost use Rattle.model.specs.AtMachine.{oneMore, sentBack, installs, requeued, grantArrives, rejectedGrantArrives, marked, unmarked, acquireArrives};
+ghost use Rattle.model.specs.AtMachine.{releaseArrives, freeArrives, arrives, atMachine, handles};
 ghost use Rattle.laws.specs.Shapes.{CanonicalQueue};
 ghost use Rattle.machine.specs.Names.{Exclusive, Shared, Release};
 ghost use Rattle.rules.specs.Effects.{verdictOf};
@@ -176,11 +176,21 @@ fn queue_first(v: Site, mut a: Agent, c: ClientId, m: Mode) -> Effect
     }
 }
 
-// The packet as it goes back to the decider.
+// A count goes no further than 255.
+fn one_more(n: u8) -> u8
+    ensures { λ r. ⌜ r ≡ oneMore n ⌝ }
+{
+    if n < 255 { n + 1 } else { 255 }
+}
+
+// The packet as it goes back to the decider: it has circled once more.
 fn sent_back(p: Packet) -> Packet
     ensures { λ r. ⌜ r ≡ sentBack p ⌝ }
 {
-    resent(p, Address::Decider, p.rejected)
+    let n = one_more(p.circled);
+    let mut q = resent(p, Address::Decider, p.rejected);
+    q.circled = n;
+    q
 }
 
 // here: an agent is on the machine; x: the agent carried, or none.

@@ -16,7 +16,7 @@ use Rattle.model.specs.Asking.{changed, writerIn}
 abbrev pub next : ℕ → ℕ
 next n = (n + 1) % 256
 
--- a packet sent on to a machine, otherwise as it is
+-- a packet sent on to a machine, otherwise as it is, its count too
 abbrev pub sentOn : Packet → MachineId → Packet
 sentOn p k = resent p (ToMachine k) (p .rejected)
 

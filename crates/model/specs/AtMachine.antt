@@ -1,18 +1,23 @@
 -- What a machine does with a packet (document 01, "At a machine"; Figure 7 and 4.2 of the source).
 use mathlib.Core.Bool.{Bool, true, false, _&&_}
 use mathlib.Core.List.{List, [], _∷_, map}
+use Prim.Native.Nat.{ℕ, _+_, min}
 use lib.ListN.{set}
 use Rattle.model.specs.Lists.{pick}
 use Rattle.model.specs.Names.{ClientId, Mode, Shared, Waiter, Agent, AgentSlot, ToDecider, Message, Free, Acquire, Grant, Release, Packet, Holding, Site}
 use Rattle.model.specs.Names.{Handling, None, NoAgent, NotHolder, Taken}
-use Rattle.model.specs.States.{queueOf, waiters, someAgent, plain, resent, isShared}
+use Rattle.model.specs.States.{queueOf, waiters, someAgent, plain, isShared}
 use Rattle.model.specs.Changes.{Verdict, cannot-place, does, withSlot, withStatus}
 use Rattle.model.specs.Asking.{changed, joining, queuing, withRoom, mayJoin, leaves, lists}
 use Rattle.model.specs.AtDecider.{next}
 
--- What finds no agent that can serve it goes back to the decider, unchanged, and from there to the owner of that time.
+-- What finds no agent that can serve it goes back to the decider, and from there to the owner of that time. Its count goes up by one, as far as 255, where it
+-- stays (request 7 of document 02); else it is as it was.
+abbrev pub oneMore : ℕ → ℕ
+oneMore n = min 255 (n + 1)
+
 abbrev pub sentBack : Packet → Packet
-sentBack p = resent p ToDecider (p .rejected)
+sentBack p = record { message = p .message; to = ToDecider; rejected = p .rejected; circled = oneMore (p .circled); carried = p .carried }
 
 abbrev pub sendsBack : Site → Packet → Verdict
 sendsBack v p = does v (sentBack p ∷ [])

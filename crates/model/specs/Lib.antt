@@ -26,3 +26,5 @@ pub mod Listing
 pub mod Counts
 -- "Where is my request"
 pub mod Reasons
+-- "How often has this packet circled"
+pub mod History

@@ -86,15 +86,15 @@ abbrev pub wireCapacity : ℕ
 wireCapacity = 33
 
 -- Packets are made in three ways: new and without agent; new, with the agent inside; and the same again, for another address, with
--- or without the mark of the rejected.
+-- or without the mark of the rejected. A new one has not circled; the same again has, as often as before (request 7 of document 02).
 abbrev pub plain : Message → Address → Packet
-plain m t = record { message = m; to = t; rejected = false; carried = noAgent }
+plain m t = record { message = m; to = t; rejected = false; circled = 0; carried = noAgent }
 
 abbrev pub carrying : Message → Address → Agent → Packet
-carrying m t a = record { message = m; to = t; rejected = false; carried = someAgent a }
+carrying m t a = record { message = m; to = t; rejected = false; circled = 0; carried = someAgent a }
 
 abbrev pub resent : Packet → Address → Bool → Packet
-resent p t b = record { message = p .message; to = t; rejected = b; carried = p .carried }
+resent p t b = record { message = p .message; to = t; rejected = b; circled = p .circled; carried = p .carried }
 
 unfoldable pub blankPacket : Packet
 blankPacket = plain Free ToDecider

@@ -1,6 +1,6 @@
 -- Which states are well formed (document 01, "What stands on the bench"). What a declared type rules out needs no test: a decider that is free and has
--- a machine, a request that is neither exclusive nor shared. An incarnation is a u8 in code, so below 256; in these definitions it is a number, and
--- nothing here bounds it.
+-- a machine, a request that is neither exclusive nor shared. An incarnation is a u8 in code, so below 256, and so is a packet's count; in these
+-- definitions they are numbers, and nothing here bounds them.
 use mathlib.Core.Bool.{Bool, true, false, _&&_, _||_, not}
 use mathlib.Core.List.{List, [], _∷_}
 use Prim.Native.Nat.{ℕ}
@@ -84,8 +84,17 @@ messageFormed (Grant c m) carries rejected t = clientInRange c && (not rejected 
 messageFormed Free carries true t = carries && not (toDecider t)
 messageFormed Free carries false t = carries && toDecider t
 
+-- A machine sends requests and releases back, and nothing else: so nothing else has circled (request 7 of document 02).
+abbrev pub circledFormed : Message → ℕ → Bool
+circledFormed (Acquire c m g) n = true
+circledFormed (Release c) n = true
+circledFormed (Grant c m) n = eqb n 0
+circledFormed Free n = eqb n 0
+
 unfoldable pub packetFormed : Packet → Bool
-packetFormed p = messageFormed (p .message) (p .carried .present) (p .rejected) (p .to) && (addressInRange (p .to) && slotFormed (p .carried))
+packetFormed p =
+    messageFormed (p .message) (p .carried .present) (p .rejected) (p .to)
+    && (circledFormed (p .message) (p .circled) && (addressInRange (p .to) && slotFormed (p .carried)))
 
 abbrev pub isFree : Message → Bool
 isFree Free = true
@@ -95,7 +104,8 @@ isFree (Release c) = false
 
 unfoldable pub isBlankPacket : Packet → Bool
 isBlankPacket p =
-    isFree (p .message) && (toDecider (p .to) && (not (p .rejected) && (not (p .carried .present) && isBlankAgent (p .carried .agent))))
+    isFree (p .message)
+    && (toDecider (p .to) && (not (p .rejected) && (eqb (p .circled) 0 && (not (p .carried .present) && isBlankAgent (p .carried .agent)))))
 
 -- A wire and its packets.
 unfoldable pub wireFormed : Wire → Bool

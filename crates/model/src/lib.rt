@@ -98,11 +98,12 @@ pub enum Message {
     },
 }
 
-// Document 01's 'turned back' is rejected: the decider refused the packet.
+// Document 01's 'turned back' is rejected: the decider refused the packet. circled: how often a machine has sent it back, or 255 where it was more often.
 pub struct Packet {
     pub message: Message,
     pub to: Address,
     pub rejected: bool,
+    pub circled: u8,
     pub carried: AgentSlot,
 }
 

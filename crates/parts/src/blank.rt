@@ -85,6 +85,7 @@ pub fn plain_packet(m: Message, t: Address) -> Packet
         message: m,
         to: t,
         rejected: false,
+        circled: 0,
         carried: x,
     }
 }
@@ -98,11 +99,12 @@ pub fn carrying(m: Message, t: Address, a: Agent) -> Packet
         message: m,
         to: t,
         rejected: false,
+        circled: 0,
         carried: x,
     }
 }
 
-// The same packet again, for another address or with another mark.
+// The same packet again, for another address or with another mark; its count is kept.
 pub fn resent(p: Packet, t: Address, b: bool) -> Packet
     ensures { λ r. ⌜ r ≡ resent p t b ⌝ }
 {
@@ -112,6 +114,7 @@ pub fn resent(p: Packet, t: Address, b: bool) -> Packet
         message: m,
         to: t,
         rejected: b,
+        circled: p.circled,
         carried: x,
     }
 }

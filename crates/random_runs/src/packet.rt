@@ -1,4 +1,4 @@
-// docs/random-runs.md, 'Hand-made states': the packet, faults 4 to 8. As there, f is the slot's fault or 0, v its number, s the generator's state.
+// docs/random-runs.md, 'Hand-made states': the packet, faults 4 to 8 and 15. As there, f is the slot's fault or 0, v its number, s the generator's state.
 use crate::agent::agent;
 use crate::agent::agent_slot;
 use crate::agent::mode;
@@ -13,18 +13,19 @@ use model::Mode;
 use model::Packet;
 use std::num::wrapping_add_u8;
 
-fn made(message: Message, to: Address, rejected: bool, carried: AgentSlot) -> Packet {
+fn made(message: Message, to: Address, rejected: bool, circled: u8, carried: AgentSlot) -> Packet {
     Packet {
         message,
         to,
         rejected,
+        circled,
         carried,
     }
 }
 
 // To the decider, and without agent.
 pub fn plain(message: Message) -> Packet {
-    made(message, Address::Decider, false, no_agent())
+    made(message, Address::Decider, false, 0, no_agent())
 }
 
 pub fn blank_packet() -> Packet {
@@ -86,6 +87,28 @@ fn named(c: u8, f: u8, v: u8) -> u8 {
     if f == 5 { wrapping_add_u8(16, v) } else { c }
 }
 
+// The page's table of counts, by its entry 3 × b + r.
+fn drawn_count(b: u8, r: u8) -> u8 {
+    if b == 1 {
+        wrapping_add_u8(253, r)
+    } else if r == 2 {
+        1
+    } else {
+        0
+    }
+}
+
+// The count with fault 15: without it only an ACQUIRE and a RELEASE have one.
+fn count(kind: u8, b: u8, r: u8, f: u8, v: u8) -> u8 {
+    if f == 15 {
+        return wrapping_add_u8(1, v);
+    }
+    match kind {
+        3 | 4 | 5 | 7 => 0,
+        _ => drawn_count(b, r),
+    }
+}
+
 // Faults 6, 7 and 8 change nothing else: the rest goes by what is so without them.
 pub fn packet(s: &mut u32, f: u8, v: u8) -> Packet {
     let kind = draw(s, 8);
@@ -101,7 +124,8 @@ pub fn packet(s: &mut u32, f: u8, v: u8) -> Packet {
     let message = message(kind, named(c, f, v), m, granted);
     let to = address(to_machine(kind, rejected, a), a, f, v);
     let carried = agent_slot(flipped(carrying, f == 7), agent, f, v);
-    made(message, to, flipped(rejected, f == 6), carried)
+    let circled = count(kind, b, r, f, v);
+    made(message, to, flipped(rejected, f == 6), circled, carried)
 }
 
 fn flipped(x: bool, flip: bool) -> bool {

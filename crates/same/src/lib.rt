@@ -222,7 +222,7 @@ fn packet(p: Packet, q: Packet) -> bool
     let e = messages(m, n);
     let f = addresses(t, u);
     let g = slot(p.carried, q.carried);
-    e & (f & ((p.rejected == q.rejected) & g))
+    e & (f & ((p.rejected == q.rejected) & ((p.circled == q.circled) & g)))
 }
 
 fn packets(a: [Packet; WIRE_CAPACITY], b: [Packet; WIRE_CAPACITY]) -> bool

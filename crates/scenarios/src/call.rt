@@ -10,6 +10,7 @@ use model::LockId;
 use model::MachineId;
 use model::Outcome;
 use model::TaskId;
+use std::num::wrapping_add_u8;
 
 // A call's answer, the handling and the cluster that it gives; of a drain, the steps.
 struct Done {
@@ -129,6 +130,27 @@ pub fn called(x: Cluster, s: &[u8]) -> Cluster {
 // The same, with the handling behind the answer.
 pub fn handled(x: Cluster, s: &[u8]) -> Cluster {
     told(x, s, s, b": ", true, b"\n")
+}
+
+// The call n times over, and how many of them were accepted; u is the text that says both.
+pub fn repeated(x: Cluster, n: u8, u: &[u8], s: &[u8]) -> Cluster {
+    let mut y = x;
+    let mut accepted: u8 = 0;
+    for i in 0..n {
+        let d = read(y, s);
+        y = d.cluster;
+        if d.known {
+            if d.answer == 0 {
+                accepted = wrapping_add_u8(accepted, 1);
+            }
+        }
+    }
+    print::text(b"times ");
+    print::text(u);
+    print::text(b": accepted ");
+    print::number(accepted);
+    print::text(b"\n");
+    y
 }
 
 // The same as `called`, where the cluster that the call gives is not kept.

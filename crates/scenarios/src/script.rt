@@ -102,6 +102,12 @@ fn with_handling(mut m: Made, s: &[u8]) -> Made {
     m
 }
 
+fn with_times(mut m: Made, s: &[u8], n: Numbers) -> Made {
+    let x = call::repeated(m.cluster, n.first, s, rest(s));
+    m.cluster = x;
+    m
+}
+
 fn with_record(mut m: Made, s: &[u8], n: Numbers) -> Made {
     let r = transcripts::recorded(m.records, s, n);
     m.records = r;
@@ -148,6 +154,7 @@ fn changed(m: Made, k: usize, s: &[u8], r: &[u8], n: Numbers) -> Made {
         14 => with_replay(m, r),
         15 => making(r, n),
         16 => preferring(m, n),
+        17 => with_times(m, r, n),
         _ => with_call(m, s),
     }
 }
@@ -157,7 +164,7 @@ fn command(m: Made, s: &[u8]) -> Made {
     let k = line::place(
         s,
         0,
-        b"*say *bound *show *try *inside *outside *reason *fresh *keep *lock *agent *packet *handled *record *replay *make *prefer",
+        b"*say *bound *show *try *inside *outside *reason *fresh *keep *lock *agent *packet *handled *record *replay *make *prefer *times",
     );
     if k < 7 {
         printed(m, k, rest(s));

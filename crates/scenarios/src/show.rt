@@ -23,6 +23,7 @@ use model::Owner;
 use model::QUEUE_CAPACITY;
 use model::Queue;
 use model::Status;
+use model::WIRE_CAPACITY;
 use model::Waiter;
 use model::Wire;
 use parts::search::first_naming;
@@ -181,6 +182,19 @@ fn named(w: Wire, c: u8) {
     found(first_naming(w, ClientId(c)));
 }
 
+// How often the packet at the index has circled.
+fn circled(w: Wire, i: u8) {
+    if WIRE_CAPACITY as u8 <= i {
+        print::out_of_range();
+        return;
+    }
+    let a = w.slots;
+    let p = a[i as usize];
+    labelled(b"index ", i);
+    labelled(b" circled ", p.circled);
+    text(b"\n");
+}
+
 fn lock(s: LockState, k: usize, n: u8) {
     let c = s.clients;
     let a = s.agents;
@@ -191,6 +205,7 @@ fn lock(s: LockState, k: usize, n: u8) {
         5 => wire(s.wire),
         6 => counted(s),
         8 => named(s.wire, n),
+        9 => circled(s.wire, n),
         _ => {}
     }
 }
@@ -216,7 +231,7 @@ pub fn shown(x: Cluster, y: Cluster, t: &[u8]) {
     let k = line::word(
         t,
         n.count,
-        b"0fresh 0kept 1client 0decider 1machine 0wire 0counts 0preference 1named",
+        b"0fresh 0kept 1client 0decider 1machine 0wire 0counts 0preference 1named 1circled",
     );
     match k {
         0 => fresh(x),

@@ -75,16 +75,22 @@ slotOn k x = lock 0 (state (Owned Shared (machine k)) (set nowhere k x) allIdle 
 abbrev onWire : List Packet → ℕ → Cluster
 onWire ps n = lock 0 (state Unowned nowhere allIdle (record { slots = ps; len = n }))
 
--- a packet: message, address, rejected, what it carries
+-- a packet: message, address, rejected, what it carries; and one that a machine has sent back n times
+abbrev circling : ℕ → Message → Address → Bool → AgentSlot → Packet
+circling n m t b x = record { message = m; to = t; rejected = b; circled = n; carried = x }
+
 abbrev packet : Message → Address → Bool → AgentSlot → Packet
-packet m t b x = record { message = m; to = t; rejected = b; carried = x }
+packet m t b x = circling 0 m t b x
 
 abbrev blankWire : List Packet
 blankWire = replicate 33 blankPacket
 
 -- such a packet alone on the wire
+abbrev alone : Packet → Cluster
+alone p = onWire (set blankWire 0 p) 1
+
 abbrev sent : Message → Address → Bool → AgentSlot → Cluster
-sent m t b x = onWire (set blankWire 0 (packet m t b x)) 1
+sent m t b x = alone (packet m t b x)
 
 abbrev acquire : ℕ → Message
 acquire c = Acquire (client c) Shared true
@@ -218,6 +224,13 @@ ofMessages =
     ∷ differ (λ b. sent (release 0) away b noAgent) false true
     -- where any other FREE goes
     ∷ differ (λ t. sent Free t false carried) ToDecider away
+    -- what can have circled, and how often
+    ∷ differ (λ n. alone (circling n (grant 0) ToDecider false noAgent)) 0 1
+    ∷ differ (λ n. alone (circling n (grant 0) away true carried)) 0 1
+    ∷ differ (λ n. alone (circling n Free ToDecider false carried)) 0 1
+    ∷ differ (λ n. alone (circling n Free away true carried)) 0 255
+    ∷ differ (λ m. alone (circling 255 m away false noAgent)) (acquire 0) (grant 0)
+    ∷ differ (λ m. alone (circling 255 m ToDecider false noAgent)) (release 0) (grant 0)
     ∷ []
 
 -- the wire's length, each packet on it, and the blanks past its end
@@ -231,6 +244,7 @@ ofWires =
     ∷ differ (past i) blankPacket (packet (acquire 0) ToDecider false noAgent)
     ∷ differ (past i) blankPacket (packet Free away false noAgent)
     ∷ differ (past i) blankPacket (packet Free ToDecider true noAgent)
+    ∷ differ (past i) blankPacket (circling 1 Free ToDecider false noAgent)
     ∷ differ (past i) blankPacket (packet Free ToDecider false carried)
     ∷ [])
     ++ ofNone last (λ x. past 32 (packet Free ToDecider false x))

@@ -22,7 +22,7 @@ pub use Rattle.model.specs.declared.{Stepped.Stepped, Outcome.Outcome, Drained.
 pub use mathlib.Core.Path.{_≡_, refl, sym, ap, _∙_}
 pub use mathlib.Core.Bool.{Bool, true, false, _&&_, _||_, not, and-true, and-false, true≢false, false≢true}
 pub use mathlib.Core.List.{List, [], _∷_, _++_, map}
-pub use Prim.Native.Nat.{ℕ, zero, suc, _+_, _-_, _*_, _≤_, _<_, _%_}
+pub use Prim.Native.Nat.{ℕ, zero, suc, _+_, _-_, _*_, _≤_, _<_, _%_, min}
 pub use native.Mathlib.Omega.{arith}
 pub use native.Mathlib.Decide.{ℕ-discrete}
 pub use lib.ListN.{length, getD, set, replicate, length-set, length-append, List·getD-eq-default}
@@ -35,7 +35,7 @@ unfoldable pub use Rattle.model.specs.Lists.{count, isAt, indices, removed}
 pub use Rattle.model.specs.States.{locks, machines, tasks, clients, queueCapacity, wireCapacity, clientOf, machineOf, modeOf, isShared, noHolders, newAgent}
 pub use Rattle.model.specs.States.{someAgent, agentOn, listed, idle, statusOf, plain, carrying, resent, unowned, lockIn, preferences, prefersWriters}
 unfoldable pub use Rattle.model.specs.States.{queueOf, waiters, noAgent, blankPacket, wireOf, packets, freshLock, freshWith}
-pub use Rattle.model.specs.WellFormed.{isClient, isFree}
+pub use Rattle.model.specs.WellFormed.{isClient, isFree, circledFormed}
 unfoldable pub use Rattle.model.specs.WellFormed.{lockFormed, wellFormed}
 pub use Rattle.model.specs.Changes.{siteOf, withDecider, withSlot, withStatus, Verdict, cannot-place, does, apply, accepted}
 unfoldable pub use Rattle.model.specs.Changes.{finish}
@@ -55,6 +55,8 @@ pub use Rattle.model.specs.Counts.{agentsIn, isMarked, marksIn, uncounted}
 pub use Rattle.model.specs.Trace.{View, unseen, isAccepted, toMachine, isGrantFor, showsGrant, afterAcquire}
 pub use Rattle.model.specs.Trace.{afterGrant, afterRelease, phaseAfter}
 unfoldable pub use Rattle.model.specs.Trace.{sees, watch}
+pub use Rattle.model.specs.History.{messageNumbers, sameMessage, numberOf, sentBehind, ownNumbers, historyAfter}
+unfoldable pub use Rattle.model.specs.History.{sameNumbers, numbersAfter, numbersOf}
 pub use Rattle.model.specs.Reasons.{isRequestOf, requests, grants, grantRejected, queuedIn, isWaiting, reasonTests, reasonNumber, reasonValues}
 unfoldable pub use Rattle.model.specs.Reasons.{isTrue, inQueues, reasonsIn, firstTrue, reasonIn, reasonUnless, reason}
 pub use Rattle.laws.specs.Tests.{and-left, and-right, both, or-left, or-right, bool-cases}

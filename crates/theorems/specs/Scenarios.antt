@@ -1,6 +1,6 @@
 -- The scenarios of document 01 that are marked to be proved (D1 to D10), D12 as request 3 of document 02 has it, one for each of the tempting faults, the
--- handlings of request 4, and request 5's preference for writers: each a start state, calls on lock 0, and the numbers of the answers and the whole cluster
--- that follow, or what is told. One list, by name, and one theorem, by computation.
+-- handlings of request 4, request 5's preference for writers, and the counts of request 7: each a start state, calls on lock 0, and the numbers of the answers
+-- and the whole cluster that follow, or what is told. One list, by name, and one theorem, by computation.
 use mathlib.Core.Path.{_≡_, refl}
 use mathlib.Core.Bool.{Bool, true, false}
 use mathlib.Core.List.{List, [], _∷_, _++_, map}
@@ -24,6 +24,7 @@ use Rattle.model.specs.Calls.{delivers, handledAt, acquireStep, releaseStep, ta
 use Rattle.model.specs.Calls.{answersOf}
 use Rattle.model.specs.Drain.{releaseFirst, nextOf, drainage, drainEnded, drainUnless, drain}
 use Rattle.model.specs.Trace.{sees, watch, grantsIn}
+use Rattle.model.specs.History.{sameNumbers, numbersAfter, numbersOf}
 
 -- ---- words for states and calls: clients 0/0, 0/1 and 1/0 are 0, 1 and 4, and 2/0 is 8
 abbrev pub machine : ℕ → MachineId
@@ -71,6 +72,10 @@ agent m cs n = record { mode = m; holders = list cs; queue = queueOf []; incarna
 abbrev pub returning : Message → ℕ → Agent → Packet
 returning m k a = resent (carrying m ToDecider a) (ToMachine (machine k)) true
 
+-- the packet, after machines have sent it back n times
+abbrev circled : ℕ → Packet → Packet
+circled n p = record { message = p .message; to = p .to; rejected = p .rejected; circled = n; carried = p .carried }
+
 abbrev pub nowhere : List AgentSlot
 nowhere = replicate machines noAgent
 
@@ -106,6 +111,8 @@ pub data Scenario : Type 0 where
   granted : LockState → List Call → List ℕ → List ℕ → Scenario
   -- from this state of lock 0: calls, and the handlings that they tell
   told : LockState → List Call → List Handling → Scenario
+  -- from this state of lock 0, whose wire is empty: calls, and the numbers of the history then
+  numbered : LockState → List Call → List ℕ → Scenario
 
 abbrev Leads : (LockState → Cluster) → LockState → List Call → List ℕ → LockState → Type 0
 Leads f s cs ns t = (map number (answersOf cs (f s)) ≡ ns) × (run cs (f s) ≡ f t)
@@ -116,6 +123,7 @@ Holds (writing s cs ns t) = Leads writing0 s cs ns t
 Holds (drained s n steps t) =
     (number (drain (with0 s) (on 0) .answer) ≡ n) × (drain (with0 s) (on 0) .count ≡ steps) × (drain (with0 s) (on 0) .cluster ≡ with0 t)
 Holds (told s cs hs) = handlingsOf cs (with0 s) ≡ hs
+Holds (numbered s cs ns) = numbersOf (on 0) cs (with0 s) [] ≡ ns
 Holds (granted s cs who ns) = map (λ (c : ℕ). grantsIn (on 0) (client c) cs (with0 s) (statusOf s (client c))) who ≡ ns
 
 -- ---- the states that the scenarios reach
@@ -162,9 +170,12 @@ d4 = lock (owned Shared 0 1) (on0 (agent Shared [] 0)) (waiting4 Shared others) 
 abbrev d5 : LockState
 d5 = lock (owned Shared 0 1) (on0 (agent Shared (4 ∷ []) 1)) (waiting4 Shared others) (grantTo1 ∷ [])
 
--- D6: 1/0's release came to the agent before the mark did, and was sent back
+-- D6: 1/0's release came to the agent before the mark did, and was sent back, n times
+abbrev d6-circled : ℕ → LockState
+d6-circled n = lock (owned Shared 0 1) (on0 firstAgent) holding0 (markedTo0 ∷ circled n (plain (Release (client 4)) ToDecider) ∷ [])
+
 abbrev pub d6 : LockState
-d6 = lock (owned Shared 0 1) (on0 firstAgent) holding0 (markedTo0 ∷ plain (Release (client 4)) ToDecider ∷ [])
+d6 = d6-circled 1
 
 abbrev pub waits : ℕ → Waiter
 waits c = record { client = client c; mode = Exclusive }
@@ -223,7 +234,7 @@ passes k = releases0 k 0 ∷ delivers0 0 ∷ delivers0 0 ∷ []
 -- ---- the tempting faults
 -- a marked ACQUIRE that comes back is not granted again: no incarnation, no second GRANT
 abbrev f-marked : LockState
-f-marked = lock (owned Shared 0 1) nowhere (waiting4 Shared others) (grantTo1 ∷ carrying Free ToDecider (agent Shared [] 0) ∷ markedTo0 ∷ [])
+f-marked = lock (owned Shared 0 1) nowhere (waiting4 Shared others) (grantTo1 ∷ carrying Free ToDecider (agent Shared [] 0) ∷ circled 1 markedTo0 ∷ [])
 
 -- a local shared grant moves no incarnation
 abbrev f-local : LockState
@@ -307,6 +318,22 @@ abbrev w-joined : LockState
 w-joined =
     lock (owned Shared 0 1) (on0 (queue (waits 8 ∷ []) (agent Shared (4 ∷ 0 ∷ []) 1))) (two (Waiting Shared) (Waiting Exclusive) holding0) (grantTo1 ∷ [])
 
+-- ---- Counts. 1/0's request has come back three times when the lock is shared
+abbrev c-circled : LockState
+c-circled = lock (owned Shared 0 0) (on0 firstAgent) (waiting4 Shared holding0) (circled 3 (plain (Acquire (client 4) Shared false) ToDecider) ∷ [])
+
+-- to D6 from where 0/0 holds, and a RELEASE that circles once more
+abbrev to-D6 : List Call
+to-D6 = acquires0 1 0 3 ∷ delivers0 0 ∷ delivers0 0 ∷ releases0 1 0 ∷ delivers0 1 ∷ delivers0 1 ∷ []
+
+abbrev circles : List Call
+circles = delivers0 1 ∷ delivers0 1 ∷ []
+
+-- 1/0's request comes to machine 0 ahead of 0/0's agent and goes back; 0/0 holds and releases, and 2/0 gets the free lock
+abbrev before-copy : List Call
+before-copy =
+    acquires0 0 0 2 ∷ delivers0 0 ∷ acquires0 1 0 3 ∷ delivers0 1 ∷ delivers0 1 ∷ delivers0 0 ∷ releases0 0 0 ∷ delivers0 1 ∷ acquires0 2 0 3 ∷ delivers0 1 ∷ []
+
 -- ---- the list, and the theorem
 pub data Name : Type 0 where
   D1 D1-arrived D1-drained D2 D3 D3-rejected D4 D5 D6 D7 D8-queued D8 D9 D9-agent D10 : Name
@@ -314,6 +341,7 @@ pub data Name : Type 0 where
   marked-returns granted-locally unmarked-joins waiter-returns : Name
   D3-told D5-told D6-told D8-told : Name
   writer-noted reader-sent-on reader-queued writer-served reader-passes writer-told bit-cleared marked-joins : Name
+  D6-again count-stays copy-afresh D6-numbered D6-again-numbered request-numbered copy-numbered : Name
 
 abbrev pub scenarios : Name → Scenario
 scenarios D1 = from freshLock (acquires0 0 0 3 ∷ delivers0 0 ∷ []) (0 ∷ 0 ∷ []) d1
@@ -365,6 +393,15 @@ scenarios reader-passes = from w-waiting (acquires0 0 1 3 ∷ []) (0 ∷ []) w-p
 scenarios writer-told = writing w-unknown (releases0 0 0 ∷ delivers0 0 ∷ []) (0 ∷ 0 ∷ []) w-told
 scenarios bit-cleared = writing w-freeing (delivers0 0 ∷ []) (0 ∷ []) freshLock
 scenarios marked-joins = writing w-marked (delivers0 1 ∷ []) (0 ∷ []) w-joined
+-- counts: the decider keeps one and a machine adds one; at 255 it stays; the marked copy begins at 0
+scenarios D6-again = from d6 circles (0 ∷ 0 ∷ []) (d6-circled 2)
+scenarios count-stays = from (d6-circled 254) (circles ++ circles) (replicate 4 0) (d6-circled 255)
+scenarios copy-afresh = from c-circled (delivers0 0 ∷ []) (0 ∷ []) d2
+-- and the history of such runs
+scenarios D6-numbered = numbered d1-held to-D6 (0 ∷ 1 ∷ [])
+scenarios D6-again-numbered = numbered d1-held (to-D6 ++ (circles ++ circles)) (0 ∷ 3 ∷ [])
+scenarios request-numbered = numbered freshLock before-copy (1 ∷ 0 ∷ [])
+scenarios copy-numbered = numbered freshLock (before-copy ++ (delivers0 0 ∷ [])) (0 ∷ 0 ∷ 0 ∷ [])
 
 pub scenarios-hold : (n : Name) → Holds (scenarios n)
 unfolding run perform acquire release deliver unless settled first acquireStep releaseStep deliverStep takes finish delivers
@@ -372,7 +409,7 @@ unfolding run perform acquire release deliver unless settled first acquireStep r
     wellFormed lockFormed wireFormed packetFormed messageFormed slotFormed agentFormed isBlankAgent isBlankPacket isBlankWaiter queueFormed distinct shaped
     atDecider decides decidesAcquire decidesFree decidesGrant toOwner atMachine arrives acquireArrives releaseArrives freeArrives marked unmarked
     grantArrives rejectedGrantArrives mayShare mayJoin installs admitted staying joined clientAcquires clientAsks clientReleases staysIf handOver
-    padded removed queueOf waiters noAgent blankPacket wireOf packets freshLock watch sees
+    padded removed queueOf waiters noAgent blankPacket wireOf packets freshLock watch sees numbersOf numbersAfter sameNumbers
 scenarios-hold D1 = (refl, refl)
 scenarios-hold D1-arrived = (refl, refl)
 scenarios-hold D1-drained = (refl, refl, refl)
@@ -409,3 +446,10 @@ scenarios-hold reader-passes = (refl, refl)
 scenarios-hold writer-told = (refl, refl)
 scenarios-hold bit-cleared = (refl, refl)
 scenarios-hold marked-joins = (refl, refl)
+scenarios-hold D6-again = (refl, refl)
+scenarios-hold count-stays = (refl, refl)
+scenarios-hold copy-afresh = (refl, refl)
+scenarios-hold D6-numbered = refl
+scenarios-hold D6-again-numbered = refl
+scenarios-hold request-numbered = refl
+scenarios-hold copy-numbered = refl

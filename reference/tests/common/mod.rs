@@ -1,12 +1,16 @@
 //! Short ways to drive lock 0 in tests, and the states of the scenarios (document 01, 'Drills').
 #![allow(dead_code)]
 
+use reference::digest::Digest;
+use reference::generator::Generator;
 use reference::model::{
     Address, Agent, ClientId, ClientStatus, Cluster, LockId, LockState, MachineId, Message, Mode,
     Packet, TaskId, Waiter,
 };
-use reference::random_calls::Call;
+use reference::random_calls::{Call, DELIVER, HAND_MADE, RELEASE};
+use reference::random_runs::Run;
 use reference::report::{Report, Tally};
+use reference::transcript::Record;
 use reference::{answer_number, Drained, Handling, Refusal};
 use std::ops::RangeInclusive;
 use std::process::Command;
@@ -108,6 +112,14 @@ pub fn grant(client: ClientId, mode: Mode) -> Message {
 
 pub fn plain(message: Message, address: Address) -> Packet {
     Packet::new(message, address)
+}
+
+/// The same packet with another count.
+pub fn with_count(count: u8, packet: Packet) -> Packet {
+    Packet {
+        circled: count,
+        ..packet
+    }
 }
 
 pub fn d1() -> Cluster {
@@ -260,6 +272,74 @@ pub fn named_numbers(cluster: &Cluster, call: &Call) -> Vec<u8> {
         [] => vec![0],
         [first, ..] => vec![1, first as u8],
     }
+}
+
+/// A record as a call; what the record has not is 0.
+pub fn call_of(record: Record) -> Call {
+    let nowhere = (MachineId(0), TaskId(0));
+    let (lock, (machine, task), mode, index) = match record {
+        Record::Acquire(lock, machine, task, mode) => (lock, (machine, task), mode, 0),
+        Record::Release(lock, machine, task) => (lock, (machine, task), 0, 0),
+        Record::Deliver(lock, index) => (lock, nowhere, 0, index),
+    };
+    Call {
+        kind: record.kind() as u8,
+        lock,
+        machine,
+        task,
+        mode,
+        index,
+    }
+}
+
+/// The next step of a drain of the call's lock, none where it is quiescent or does not exist.
+pub fn drain_step(cluster: &Cluster, call: Call) -> Option<Call> {
+    let state = cluster.locks.get(call.lock.index())?;
+    let holding = |&c: &u8| matches!(state.clients[usize::from(c)], ClientStatus::Holding(_));
+    let (kind, number) = match state.wire.is_empty() {
+        false => (DELIVER, 0),
+        true => (RELEASE, (0..16).find(holding)?),
+    };
+    Some(Call {
+        kind,
+        machine: MachineId(number / 4),
+        task: TaskId(number % 4),
+        index: 0,
+        ..call
+    })
+}
+
+/// The digest of docs/random-runs.md, worked out once more.
+pub fn digest_of(start: u64, bytes: &[u8]) -> u64 {
+    let next = |h: u64, &byte: &u8| (h * 65_599 + u64::from(byte) + 1) % 4_294_967_291;
+    bytes.iter().fold(start, next)
+}
+
+pub fn cluster_digest(start: u64, cluster: &Cluster) -> u64 {
+    let mut digest = Digest::new(start);
+    digest.cluster(cluster);
+    digest.value()
+}
+
+/// The line that stops a run from this state of all locks, tested as if it were a reached one.
+pub fn stopped(preference: u8, seed: u64, state: &LockState) -> String {
+    let mut cluster = fresh(preference);
+    cluster.locks.fill(state.clone());
+    let mut written = Vec::new();
+    let mut report = Report::new(&mut written, false);
+    let run = Run::new("run", seed, HAND_MADE, Generator::new(seed), cluster);
+    let stop = run.tested().finish(&mut report);
+    assert!(written.is_empty());
+    stop.expect_err("the run is stopped").to_string()
+}
+
+/// A seed with a drain of a lock in its first step, before the first call.
+pub fn draining_seed() -> u64 {
+    let drains =
+        |outputs: [u64; 8]| outputs[0].is_multiple_of(64) && outputs[1] % 64 >= HAND_MADE.wild;
+    let mut seeds = 1..1_000;
+    let seed = seeds.find(|&seed| drains(Generator::new(seed).eight()));
+    seed.expect("one step in 64 drains a lock")
 }
 
 /// One seed of a part of docs/random-runs.md.

@@ -7,4 +7,4 @@ unfolding packetBytes
 packet-spec = tie.close (tie.spec (search needs) (search needs) (search needs) (search needs) (search needs)
     (λ c. let b = c .before .before in
     let a = b .before in
-    rw (c .agent-slot .ensures, c .before .byte .ensures, parts, b .flag-number .ensures, a .address .ensures, parts, a .before .message .ensures, parts)))
+    rw (c .agent-slot .ensures, c .before .two .ensures, parts, b .flag-number .ensures, a .address .ensures, parts, a .before .message .ensures, parts)))
