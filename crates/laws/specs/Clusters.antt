@@ -14,15 +14,19 @@ use Rattle.model.specs.WellFormed.{lockFormed, wellFormed}
 use Rattle.model.specs.Calls.{settled, perform, lockOf, fresh}
 use Rattle.laws.specs.Tests.{pick-by}
 use Rattle.laws.specs.Formed.{no-agent-formed, cells, lock-formed}
-use Rattle.laws.specs.Lists.{all-set, all-replicate}
+use Rattle.laws.specs.Lists.{all-getD, all-set, all-replicate}
 use Rattle.laws.specs.Making.{wire-formed}
 use Rattle.laws.specs.FormedStep.{acquire-formed, release-formed, deliver-formed}
 use Rattle.laws.specs.CallSteps.{stepOf, Allowed, may-acquire, may-release, may-deliver, CallCases, denied, passed, call-cases}
 use Rattle.laws.specs.CallSteps.{perform-elsewhere, perform-here}
 
-pub fresh-lock-formed : (n : ℕ) → lockFormed n freshLock ≡ true
+fresh-lock-formed : (n : ℕ) → lockFormed n freshLock ≡ true
 unfolding lockFormed freshLock
 fresh-lock-formed n = rw no-agent-formed (wire-formed [] refl (omega arith))
+
+-- each lock's state, past the last a fresh one
+pub each-lock-formed : (x : Cluster) (l : LockId) → wellFormed x ≡ true → lockFormed (x .preference) (lockIn x l) ≡ true
+each-lock-formed x l w = all-getD (lockFormed (x .preference)) (x .locks) (l .0) freshLock (cells x w .locks) (fresh-lock-formed (x .preference))
 
 with-formed : (n : ℕ) → ltb n preferences ≡ true → wellFormed (freshWith n) ≡ true
 unfolding wellFormed freshWith

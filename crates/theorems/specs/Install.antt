@@ -1,7 +1,7 @@
 -- A GRANT with its agent comes to its client's machine: the agent is installed, and whoever is admitted from its queue joins.
-use Rattle.theorems.specs.Names.{MachineId, ClientId, Mode, Shared, Owner, Waiter, Agent, AgentSlot, ToMachine, Grant, Packet, Status, Waiting, Holding}
-use Rattle.theorems.specs.Names.{LockState, _≡_, refl, _∙_, Bool, true, false, List, [], _∷_, map, ℕ, _+_, _*_, _≤_, _<_, arith, length, getD, set}
-use Rattle.theorems.specs.Names.{length-set, List·getD-eq-default, eqb, ltb, eq-eqb, ne-eqb, ltb-true, ltb-false, waiters, noAgent, siteOf}
+use Rattle.theorems.specs.Names.{MachineId, ClientId, Mode, Shared, Owner, Waiter, Agent, AgentSlot, Address, ToMachine, Grant, Packet, Status, Waiting}
+use Rattle.theorems.specs.Names.{Holding, LockState, _≡_, refl, _∙_, Bool, true, false, List, [], _∷_, map, ℕ, _+_, _*_, _≤_, _<_, arith, length, getD}
+use Rattle.theorems.specs.Names.{set, length-set, List·getD-eq-default, eqb, ltb, eq-eqb, ne-eqb, ltb-true, ltb-false, waiters, noAgent, siteOf}
 use Rattle.theorems.specs.Names.{grantOf, admitted, staying, joined, installs, and-left, and-right, waiters-of, not, machines, clients}
 use Rattle.theorems.specs.Names.{machineOf, inParts, length-joined}
 use Rattle.theorems.specs.Tally.{flag, tally}
@@ -31,6 +31,16 @@ coming o k c n a e =
     let away = away-of a (and-right (ownedMode o n) _ f2) in
     record { below = ltb-true (c .0) clients (and-left _ _ f); at = and-left _ _ f1; mode = and-left _ _ f2; away = away }
 
+-- its client and those in the agent's queue are counted by `waits`, so nobody is both the client and one who leaves the queue
+module _ {r : LockState} {rest : List Packet} {c : ClientId} {n : Mode} {t : Address} {b : Bool} (p : Packet) (i : Inv r)
+    (sp : Split r (inParts (Grant c n) t b true p ∷ []) rest) (d : ℕ) where
+  counted : (m : Mode) → hit d m c n + tally (hitW d m) (waiters (p .carried .agent .queue)) ≤ waitF m (statusAt r d)
+  unfolding weight tally askM queuedS
+  counted m = omega (arith, i .waits d m, sp .parts (waitingP d m))
+
+  pub single : one d c + tally (oneW d) (admitted n (waiters (p .carried .agent .queue))) ≤ 1
+  single = single-of d c n _ (omega (arith, counted Shared, waits-one Shared (statusAt r d)))
+
 -- the GRANT is the packet p
 module _ (pref : ℕ) (r : LockState) (rest : List Packet) (k : MachineId) (c : ClientId) (n : Mode) (p : Packet) (old : AgentSlot) where
   abbrev a : Agent
@@ -53,11 +63,6 @@ module _ (pref : ℕ) (r : LockState) (rest : List Packet) (k : MachineId) (c : 
     unfolding misfitP
     known = coming _ k c n a (came-fits r rest came i sp)
 
-    -- the client and those in the queue are counted by `waits`
-    counted : (d : ℕ) (m : Mode) → hit d m c n + tally (hitW d m) line ≤ waitF m (statusAt r d)
-    unfolding weight tally askM queuedS
-    counted d m = omega (arith, i .waits d m, sp .parts (waitingP d m))
-
     waiting : statusAt r (c .0) ≡ Waiting n
     waiting = grant-waits came i refl sp
 
@@ -66,9 +71,6 @@ module _ (pref : ℕ) (r : LockState) (rest : List Packet) (k : MachineId) (c : 
 
     all-clients : length holders′ ≡ clients
     all-clients = length-joined own (admitted n line) ∙ length-set (a .holders) (c .0) true ∙ known .away .sized
-
-    single : (d : ℕ) → one d c + tally (oneW d) (admitted n line) ≤ 1
-    single d = single-of d c n line (omega (arith, counted d Shared, waits-one Shared (statusAt r d)))
 
     lists : (d : ℕ) → flag (getD holders′ d false) ≡ one d c + tally (oneW d) (admitted n line)
     unfolding one waitF
@@ -79,13 +81,13 @@ module _ (pref : ℕ) (r : LockState) (rest : List Packet) (k : MachineId) (c : 
             let dl : d < length (a .holders) = omega (arith, known .away .sized, ltb-true d clients q) in
             let e : flag (getD own d false) ≡ one d c =
             omega (arith, list-on (a .holders) (c .0) d cl (nobody (a .holders) (c .0) (known .away .empty)), nobody (a .holders) d (known .away .empty)) in
-            omega (arith, join-count own (admitted n line) d (omega (arith, length-set (a .holders) (c .0) true)) (omega (arith, single d)))
+            omega (arith, join-count own (admitted n line) d (omega (arith, length-set (a .holders) (c .0) true)) (omega (arith, single p i sp d)))
         go false q =
             let dh : clients ≤ d = ltb-false d clients q in
             let hl : length holders′ ≤ d = omega (arith, all-clients) in
             let w : waitF Shared (statusAt r d) ≡ 0 = rw (far-idle r d i dh) in
             let e : flag (eqb (c .0) d) ≡ 0 = rw (ne-eqb (c .0) d (λ p. omega (arith, p, known .below))) in
-            rw (List·getD-eq-default holders′ false hl) (omega (arith, counted d Shared, admitted-below d n line))
+            rw (List·getD-eq-default holders′ false hl) (omega (arith, counted p i sp d Shared, admitted-below d n line))
 
     -- the client's status becomes holding
     moved : (f : Status → ℕ) (d : ℕ) → f (told r c (Holding n) d) + one d c * f (Waiting n) ≡ f (statusAt r d) + one d c * f (Holding n)
@@ -127,7 +129,7 @@ module _ (pref : ℕ) (r : LockState) (rest : List Packet) (k : MachineId) (c : 
           agent = omega (arith, bare .agentS, grants-none n agentP (λ e. refl) line);
           incs = λ x h. omega (arith, bare .incarnationS, grants-none n incarnationP (λ e. refl) line, no-marks);
           modes = λ d. omega (arith, i .modes d, rw (clash-none (r .decider .owner) n (known .mode)) at (moved (clash (r .decider .owner)) d));
-          fitting = grants-fit (r .decider .owner) n (known .mode) line (none-far r i line (λ d m. omega (arith, counted d m)));
+          fitting = grants-fit (r .decider .owner) n (known .mode) line (none-far r i line (λ d m. omega (arith, counted p i sp d m)));
           slot =
               home-fits (r .decider .owner) (k .0) _
               (record {

@@ -51,3 +51,5 @@ pub mod Preferences
 pub mod WritersFirst
 -- ---- which packet an acquire is refused for
 pub mod Naming
+-- ---- how often a packet has circled
+pub mod Circling

@@ -1,13 +1,12 @@
 -- What a cluster prefers (request 5 of document 02): which preferences are accepted, that a cluster keeps its own, and that with readers preferred no decider
 -- knows of a writer.
 use Rattle.model.specs.WellFormed.{ownerInRange}
-use Rattle.laws.specs.Lists.{all-getD}
-use Rattle.laws.specs.Formed.{parts, cells}
-use Rattle.laws.specs.Clusters.{fresh-lock-formed}
+use Rattle.laws.specs.Formed.{parts}
+use Rattle.laws.specs.Clusters.{each-lock-formed}
 use Rattle.laws.specs.CallSteps.{perform-preference}
 use Rattle.theorems.specs.Names.{LockId, Cluster, Call, _≡_, refl, sym, _∙_, Bool, true, false, _||_, not, false≢true, List, [], _∷_, ℕ, ltb, ltb-true}
-use Rattle.theorems.specs.Names.{lt-ltb, freshLock, lockIn, preferences, prefersWriters, lockFormed, wellFormed, perform, run, after, fresh, and-right}
-use Rattle.theorems.specs.Names.{bool-cases, MachineId, ClientId, Site, ap, _&&_, and-true, isShared, siteOf, mayJoin, ownedShared, mayShare}
+use Rattle.theorems.specs.Names.{lt-ltb, lockIn, preferences, prefersWriters, wellFormed, perform, run, after, fresh, and-right, bool-cases, Site, ap}
+use Rattle.theorems.specs.Names.{_&&_, and-true, isShared, siteOf, mayJoin, ownedShared, mayShare}
 use Rattle.theorems.specs.Runs.{reached}
 use Rattle.theorems.specs.Statements.{Prefers, AsBefore, ReadersAsBefore}
 
@@ -23,8 +22,8 @@ clear-bit false p e q = refl
 
 no-writer : (x : Cluster) (l : LockId) → wellFormed x ≡ true → prefersWriters (x .preference) ≡ false → lockIn x l .decider .writer ≡ false
 no-writer x l w q =
-    let f = all-getD (lockFormed (x .preference)) (x .locks) (l .0) freshLock (cells x w .locks) (fresh-lock-formed (x .preference)) in
-    clear-bit _ (prefersWriters (x .preference)) (and-right (ownerInRange (lockIn x l .decider .owner)) _ (parts (lockIn x l) f .decider)) q
+    let d = parts (lockIn x l) (each-lock-formed x l w) .decider in
+    clear-bit _ (prefersWriters (x .preference)) (and-right (ownerInRange (lockIn x l .decider .owner)) _ d) q
 
 pub prefers : (n : ℕ) → Prefers n
 unfolding fresh

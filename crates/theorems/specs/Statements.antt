@@ -1,6 +1,6 @@
--- What is proved, in Theorems, Drains, Listings, Counts, Reasons, FirstCome, Handlings, Preferences, WritersFirst and Naming: of the numbers of answers, and
--- of every list of calls on a fresh cluster, made with any preference n, as given: one above 1 is refused, and the cluster beside that prefers readers. Past
--- the last, a lock reads as fresh and a client as idle.
+-- What is proved, in Theorems, Drains, Listings, Counts, Reasons, FirstCome, Handlings, Preferences, WritersFirst, Naming and Circling: of the numbers of
+-- answers, and of every list of calls on a fresh cluster, made with any preference n, as given: one above 1 is refused, and the cluster beside that prefers
+-- readers. Past the last, a lock reads as fresh and a client as idle.
 use Rattle.model.specs.Drain.{allowance, Quiescent, drainCalls, drain}
 use Rattle.model.specs.Trace.{isAccepted, grantsIn}
 use Rattle.model.specs.Refusals.{first}
@@ -16,7 +16,7 @@ use Rattle.theorems.specs.Names.{isTrue, reasonIn, reason, reasonNumber,
 use Rattle.theorems.specs.Names.{removed, grantOf, acquire, release, deliver, preferences, prefersWriters, freshWith, writerIn, Shared, ToDecider}
 use Rattle.theorems.specs.Names.{Message, Free, Acquire, Release, Handling, None, NoAgent, NotHolder, Taken, sentBack, lists, handlingsOf, lastTold}
 use Rattle.theorems.specs.Names.{wireOf, Site, siteOf, mayShare, mayJoin, noting, grantsFirst, grantsWith, passesOn, newAgent, changed}
-use Rattle.theorems.specs.Names.{Found, Nowhere, At, any, IsFirst}
+use Rattle.theorems.specs.Names.{Found, Nowhere, At, any, IsFirst, min, getD, historyAfter}
 use lib.ListN.{take}
 
 -- Different answers have different numbers, and 0 is the number of the accepted alone.
@@ -209,7 +209,7 @@ isRequest (Release c) = true
 isRequest (Grant c m) = false
 isRequest Free = false
 
--- It went back: the same packet, now for the decider, is the last on the wire, and nothing else has changed.
+-- It went back: the same packet, now for the decider and counted once more, is the last on the wire, and nothing else has changed.
 abbrev pub WentBack : LockState → LockState → ℕ → Type 0
 WentBack s t i =
     t ≡ record { decider = s .decider; agents = s .agents; clients = s .clients; wire = wireOf (removed (packets (s .wire)) i ++ sentBack (packetAt s i) ∷ []) }
@@ -316,3 +316,12 @@ pub record NamedBy (x : Cluster) (l : LockId) (k : MachineId) (t : TaskId) (f : 
 abbrev pub StillNamedBy : Cluster → Type 0
 StillNamedBy x =
     (l : LockId) (k : MachineId) (t : TaskId) (f : Found) → IsFirst (names (clientOf k t)) (packets (lockIn x l .wire)) f → NamedBy x l k t f
+
+-- Request 7 of document 02: how often a packet has circled. Beside a lock's wire stands the history, a number for each packet, and the packet's count is that
+-- number, or 255 where it is more. Past the wire's end both are 0.
+pub record Circled (n : ℕ) (cs : List Call) (l : LockId) : Type 0 where
+  pub beside : length (historyAfter n l cs) ≡ length (packets (lockIn (after n cs) l .wire))
+  pub counts : (i : ℕ) → packetAt (lockIn (after n cs) l) i .circled ≡ min 255 (getD (historyAfter n l cs) i 0)
+
+abbrev pub HowOften : ℕ → List Call → Type 0
+HowOften n cs = (l : LockId) → Circled n cs l

@@ -267,7 +267,7 @@ elsewhere (AcquireCall k m t n) l x y c v q = rw (ne-eqb (l .0) (k .0) q)
 elsewhere (ReleaseCall k m t) l x y c v q = rw (ne-eqb (l .0) (k .0) q)
 elsewhere (DeliverCall k i) l x y c v q = rw (ne-eqb (l .0) (k .0) q)
 
-abbrev lock-of : ℕ → LockId
+abbrev pub lock-of : ℕ → LockId
 lock-of n = record { 0 = n }
 
 -- the view after one call, accepted or not
