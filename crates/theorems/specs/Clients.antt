@@ -18,7 +18,7 @@ use Rattle.theorems.specs.Waiters.{room-idle, queued-one, good-room}
 use Rattle.theorems.specs.Leaving.{Leaver, keep-leaves}
 
 -- ---- nothing leaves the wire
-pub split-none : (r : LockState) → Split r [] (packets (r .wire))
+split-none : (r : LockState) → Split r [] (packets (r .wire))
 unfolding tally
 split-none r = record { parts = λ f. omega arith }
 

@@ -1,18 +1,17 @@
--- Every step of a drain is accepted and lowers the rank, so a drain ends, with its lock fresh and the others as they were.
+-- Every step of a drain is accepted and lowers the number of steps left, so a drain ends, with its lock fresh and the others as they were.
 use Rattle.model.specs.Drain.{allowance, Next, none, some, nextCall, Quiescent, Drainage, ending, after-one, drainage, drainCalls, drainEnded, drainUnless}
 use Rattle.model.specs.Drain.{drain}
 use Rattle.model.specs.Refusals.{first}
 use Rattle.laws.specs.CallSteps.{stepOf, perform-elsewhere, perform-here}
 use Rattle.laws.specs.Next.{NextIs, delivers-first, releases-holder, next-is, rests, Goes, goes}
 use Rattle.laws.specs.Formed.{lock-formed}
-use Rattle.theorems.specs.Names.{LockId, MachineId, TaskId, ClientId, Mode, Exclusive, Shared, Address, ToDecider, ToMachine, Message, Free, Acquire}
-use Rattle.theorems.specs.Names.{Grant, Release, Packet, Status, Idle, Waiting, Holding, LockState, Cluster, Call, ReleaseCall, DeliverCall, Accepted}
-use Rattle.theorems.specs.Names.{Outcome, _≡_, refl, sym, ap, _∙_, Bool, true, false, _&&_, not, false≢true, List, [], _∷_, ℕ, zero, suc, _+_, _≤_, _<_}
-use Rattle.theorems.specs.Names.{arith, length, eqb, eqb-true, eq-eqb, lt-leb, pick, all, removed, clientOf, statusOf, lockIn, packets, freshLock}
-use Rattle.theorems.specs.Names.{wellFormed, isHolding, packetAt, after, answersOf, deliverStep, settled, perform, lockOf, run, View, isAccepted}
-use Rattle.theorems.specs.Names.{toMachine, None, handlingsOf, lastTold}
-use Rattle.theorems.specs.Names.{isGrantFor, showsGrant, afterGrant, afterRelease, sees, watch, and-left, locks, fresh, inParts}
-use Rattle.theorems.specs.Weights.{statusAt, waitF, holdF, few}
+use Rattle.theorems.specs.Names.{LockId, MachineId, TaskId, ClientId, Mode, Address, ToDecider, ToMachine, Message, Free, Acquire, Grant, Release}
+use Rattle.theorems.specs.Names.{Packet, Status, Idle, Waiting, Holding, LockState, Cluster, Call, ReleaseCall, DeliverCall, Accepted, Outcome, _≡_}
+use Rattle.theorems.specs.Names.{refl, sym, ap, _∙_, Bool, true, false, _&&_, not, false≢true, List, [], _∷_, ℕ, zero, suc, _+_, _≤_, _<_, arith}
+use Rattle.theorems.specs.Names.{length, eqb, eqb-true, eq-eqb, lt-leb, pick, all, removed, clientOf, statusOf, lockIn, packets, freshLock, wellFormed}
+use Rattle.theorems.specs.Names.{isHolding, packetAt, after, answersOf, deliverStep, settled, perform, lockOf, run, View, isAccepted, toMachine, None}
+use Rattle.theorems.specs.Names.{handlingsOf, lastTold, isGrantFor, showsGrant, afterGrant, afterRelease, sees, watch, and-left, locks, fresh, inParts}
+use Rattle.theorems.specs.Weights.{statusAt, waitsF, holdF, few}
 use Rattle.theorems.specs.Invariant.{Inv}
 use Rattle.theorems.specs.InvariantStep.{Split, split-at}
 use Rattle.theorems.specs.Facts.{grant-waits}
@@ -21,27 +20,21 @@ use Rattle.theorems.specs.Runs.{sound-step, Reached, reached-next, reach
 use Rattle.theorems.specs.Traced.{agrees-call}
 use Rattle.theorems.specs.Statements.{provedBound, Drains, Demand3}
 use Rattle.theorems.specs.Theorems.{trace-agrees, exclusion-of-trace}
-use Rattle.theorems.specs.RankFalls.{rank, rank-bound, deliver-falls, release-falls}
+use Rattle.theorems.specs.StepsLeft.{stepsLeft, steps-bound}
+use Rattle.theorems.specs.StepsFall.{deliver-falls, release-falls}
 use Rattle.theorems.specs.Quiescence.{is-fresh}
 
 -- ---- the view of a client along a drain: its grants, and 1 more while it waits, stay as many
-waitingF : Status → ℕ
-waitingF st = waitF Exclusive st + waitF Shared st
-
 abbrev count : View → ℕ
-count v = v .grants + waitingF (v .phase)
+count v = v .grants + waitsF (v .phase)
 
 -- the call on x, accepted, shows each client no grant but one that it waits for
 Counted : LockId → Call → Cluster → Type 0
 Counted l a x = (c : ClientId) (v : View) → v .phase ≡ statusOf (lockIn x l) c → count (sees l c a x (perform a x .cluster) v) ≡ count v
 
 count-waiting : (v : View) (n : Mode) → v .phase ≡ Waiting n → count (afterGrant v) ≡ count v
-unfolding waitingF waitF
-count-waiting v n e = rw e (go n)
-  where
-    go : (n : Mode) → count (record { phase = Holding n; grants = v .grants + 1 }) ≡ count (record { phase = Waiting n; grants = v .grants })
-    go Exclusive = omega arith
-    go Shared = omega arith
+unfolding waitsF
+count-waiting v n e = rw e (omega arith)
 
 -- a GRANT that is delivered finds its client waiting
 grant-finds : (s : LockState) (i : Inv s) (rest : List Packet) (c : ClientId) (p : Packet) (t : Address) (m : Message) (b : Bool)
@@ -69,7 +62,7 @@ deliver-counted x l j i b c v e = rw (eq-eqb (l .0) (l .0) refl) (go (showsGrant
 
 release-counted : (x : Cluster) (l : LockId) (k : MachineId) (t : TaskId) (m : Mode) → statusOf (lockIn x l) (clientOf k t) ≡ Holding m
     → Counted l (ReleaseCall l k t) x
-unfolding Counted sees waitingF waitF
+unfolding Counted sees waitsF
 release-counted x l k t m ho c v e = rw (eq-eqb (l .0) (l .0) refl) (go (eqb (c .0) (clientOf k t .0)) refl)
   where
     go : (b : Bool) → eqb (c .0) (clientOf k t .0) ≡ b → count (pick b (afterRelease v) v) ≡ count v
@@ -80,7 +73,7 @@ release-counted x l k t m ho c v e = rw (eq-eqb (l .0) (l .0) refl) (go (eqb (c 
 data Onward (x : Cluster) (l : LockId) : Type 0 where
   stops : nextCall l (lockIn x l) ≡ none → lockIn x l ≡ freshLock → Onward x l
   steps : (a : Call) → nextCall l (lockIn x l) ≡ some a → lockOf a ≡ l → perform a x .answer ≡ Accepted → Counted l a x
-      → rank (lockIn (perform a x .cluster) l) < rank (lockIn x l) → Onward x l
+      → stepsLeft (lockIn (perform a x .cluster) l) < stepsLeft (lockIn x l) → Onward x l
 
 not-holding : (st : Status) → isHolding st ≡ false → holdF st ≡ 0
 unfolding holdF
@@ -92,13 +85,13 @@ module _ (x : Cluster) (l : LockId) (lb : l .0 < locks) (h : Reached x) where
   abbrev s : LockState
   s = lockIn x l
 
-  next-falls : (a : Call) → NextIs l s a → rank (stepOf (x .preference) a s .state) < rank s
+  next-falls : (a : Call) → NextIs l s a → stepsLeft (stepOf (x .preference) a s .state) < stepsLeft s
   next-falls _ (delivers-first b) = go (packets (s .wire)) refl b
     where
-      go : (ps : List Packet) → packets (s .wire) ≡ ps → 0 < length ps → rank (deliverStep (x .preference) s 0 .state) < rank s
+      go : (ps : List Packet) → packets (s .wire) ≡ ps → 0 < length ps → stepsLeft (deliverStep (x .preference) s 0 .state) < stepsLeft s
       go [] e b = absurd (omega arith)
       go (p ∷ ps) e b = deliver-falls (x .preference) s (h .invs l) p ps e
-  next-falls _ (releases-holder k t m i b e st) = release-falls (x .preference) s (h .invs l) (clientOf k t) m (omega (arith, h .invs l .all-clients)) st
+  next-falls _ (releases-holder k t m i b e st) = release-falls (x .preference) s (h .invs l) (clientOf k t) m (omega (arith, h .invs l .all-clients)) st e
 
   next-counted : (a : Call) → NextIs l s a → Counted l a x
   next-counted _ (delivers-first b) = deliver-counted x l 0 (h .invs l) b
@@ -130,7 +123,7 @@ record Ends (x : Cluster) (l : LockId) (n : ℕ) (d : Drainage) : Type 0 where
   accepted : all isAccepted (answersOf (d .calls) x) ≡ true
   quiescent : Quiescent l (lockIn (d .cluster) l)
   others : (j : LockId) → (j .0 ≡ l .0 → ⊥) → lockIn (d .cluster) j ≡ lockIn x j
-  counted : (c : ClientId) (v : View) → v .phase ≡ statusOf (lockIn x l) c → watch l c (d .calls) x v .grants ≡ v .grants + waitingF (statusOf (lockIn x l) c)
+  counted : (c : ClientId) (v : View) → v .phase ≡ statusOf (lockIn x l) c → watch l c (d .calls) x v .grants ≡ v .grants + waitsF (statusOf (lockIn x l) c)
 
 drainage-stops : (n : ℕ) (l : LockId) (x : Cluster) → nextCall l (lockIn x l) ≡ none → drainage n l x ≡ ending Accepted x
 unfolding drainage
@@ -143,8 +136,8 @@ unfolding drainage
 drainage-steps n l x a e q = rw (e, q, drainage)
 
 idle-waits : (x : Cluster) (l : LockId) → lockIn x l ≡ freshLock → (c : ClientId) (v : View) → v .phase ≡ statusOf (lockIn x l) c
-    → v .grants ≡ v .grants + waitingF (statusOf (lockIn x l) c)
-unfolding waitingF waitF
+    → v .grants ≡ v .grants + waitsF (statusOf (lockIn x l) c)
+unfolding waitsF
 idle-waits x l f c v p = rw (f, all-idle (c .0)) (omega arith)
 
 -- nothing is left to do
@@ -160,13 +153,13 @@ module _ (x : Cluster) (l : LockId) (h : Reached x) (a : Call) (q : lockOf a ≡
   y = perform a x .cluster
 
   count-on : (m : ℕ) (d : Drainage) → Ends y l m d → (c : ClientId) (v : View) → v .phase ≡ statusOf (lockIn x l) c
-      → watch l c (a ∷ d .calls) x v .grants ≡ v .grants + waitingF (statusOf (lockIn x l) c)
+      → watch l c (a ∷ d .calls) x v .grants ≡ v .grants + waitsF (statusOf (lockIn x l) c)
   unfolding watch Counted
   count-on m d ih c v p =
       let v′ : View = sees l c a x y v in
       let p′ : v′ .phase ≡ statusOf (lockIn y l) c = rw t at (agrees-call a l c x v h p) in
       let e : pick (isAccepted (perform a x .answer)) v′ v ≡ v′ = rw t in
-      ap (λ (w : View). watch l c (d .calls) y w .grants) e ∙ omega (arith, ih .counted c v′ p′, cn c v p, ap waitingF p, ap waitingF p′)
+      ap (λ (w : View). watch l c (d .calls) y w .grants) e ∙ omega (arith, ih .counted c v′ p′, cn c v p, ap waitsF p, ap waitsF p′)
 
   ends-after : (m n : ℕ) (d : Drainage) → m < n → Ends y l m d → Ends x l n (after-one a d)
   unfolding run
@@ -182,17 +175,17 @@ module _ (x : Cluster) (l : LockId) (h : Reached x) (a : Call) (q : lockOf a ≡
         counted = count-on m d ih;
       }
 
--- by induction on the steps allowed: the rank bounds those that are taken
-ends : (n : ℕ) (x : Cluster) (l : LockId) → l .0 < locks → Reached x → rank (lockIn x l) ≤ n → Ends x l (rank (lockIn x l)) (drainage n l x)
+-- by induction on the steps allowed: that number bounds those that are taken
+ends : (n : ℕ) (x : Cluster) (l : LockId) → l .0 < locks → Reached x → stepsLeft (lockIn x l) ≤ n → Ends x l (stepsLeft (lockIn x l)) (drainage n l x)
 ends zero x l lb h b = go (onward x l lb h)
   where
-    go : Onward x l → Ends x l (rank (lockIn x l)) (drainage 0 l x)
+    go : Onward x l → Ends x l (stepsLeft (lockIn x l)) (drainage 0 l x)
     go (stops e f) = ends-now _ 0 x l e f
     go (steps a e q t cn r) = absurd (omega arith)
 ends (suc n) x l lb h b = go (onward x l lb h) (λ y i. ends n y l lb i)
   where
-    go : Onward x l → ((y : Cluster) → Reached y → rank (lockIn y l) ≤ n → Ends y l (rank (lockIn y l)) (drainage n l y))
-        → Ends x l (rank (lockIn x l)) (drainage (suc n) l x)
+    go : Onward x l → ((y : Cluster) → Reached y → stepsLeft (lockIn y l) ≤ n → Ends y l (stepsLeft (lockIn y l)) (drainage n l y))
+        → Ends x l (stepsLeft (lockIn x l)) (drainage (suc n) l x)
     go (stops e f) ih = ends-now _ (suc n) x l e f
     go (steps a e q t cn r) ih = rw (drainage-steps n l x a e t) (ends-after x l h a q t cn _ _ _ r (ih _ (reached-next a x h) (omega arith)))
 
@@ -208,17 +201,13 @@ drain-is : (x : Cluster) (l : LockId) → wellFormed x ≡ true → l .0 < locks
 unfolding drain drainUnless drainEnded first
 drain-is x l w lb e = rw (w, lt-leb locks (l .0) lb, e)
 
-waiting-one : (m : Mode) → waitingF (Waiting m) ≡ 1
-unfolding waitingF waitF
-waiting-one Exclusive = refl
-waiting-one Shared = refl
-
 -- the phases are the statuses, however given
 drains-by : (x : Cluster) (l : LockId) → l .0 < locks → Reached x → (phase : ClientId → Status) → ((c : ClientId) → statusOf (lockIn x l) c ≡ phase c)
     → Drains x l phase
+unfolding waitsF
 drains-by x l lb h phase same =
-    let few : rank (lockIn x l) ≤ provedBound = rank-bound (lockIn x l) (h .invs l) in
-    let e : Ends x l (rank (lockIn x l)) (drainage allowance l x) = ends allowance x l lb h (omega arith) in
+    let few : stepsLeft (lockIn x l) ≤ provedBound = steps-bound (lockIn x l) (h .invs l) in
+    let e : Ends x l (stepsLeft (lockIn x l)) (drainage allowance l x) = ends allowance x l lb h (omega arith) in
     let d = drain-is x l (h .formed) lb (e .answer) in
     record {
       answered = rw d;
@@ -230,7 +219,7 @@ drains-by x l lb h phase same =
       quiescent = rw d (e .quiescent);
       fresh = rw d (e .state);
       others = λ j n. rw d (e .others j n);
-      granted = λ c m q. omega (arith, e .counted c (record { phase = phase c; grants = 0 }) (sym (same c)), ap waitingF (same c ∙ q), waiting-one m);
+      granted = λ c m q. omega (arith, e .counted c (record { phase = phase c; grants = 0 }) (sym (same c)), ap waitsF (same c ∙ q));
     }
 
 pub drains-reached : (x : Cluster) (l : LockId) → l .0 < locks → Reached x → Drains x l (λ c. statusOf (lockIn x l) c)

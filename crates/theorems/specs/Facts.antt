@@ -1,16 +1,16 @@
 -- What the invariant gives: of packets, of agents, of counts.
 use Rattle.theorems.specs.Names.{MachineId, ClientId, Mode, Exclusive, Shared, Owner, Unowned, Owned, Waiter, Agent, AgentSlot, Address, Message, Free}
 use Rattle.theorems.specs.Names.{Acquire, Grant, Release, Packet, Status, Idle, Waiting, Holding, LockState, _≡_, refl, sym, ap, _∙_, Bool, true, false}
-use Rattle.theorems.specs.Names.{_&&_, not, and-false, false≢true, List, [], _∷_, ℕ, _+_, _*_, _≤_, _<_, arith, ℕ-discrete, length, getD, set, length-set}
-use Rattle.theorems.specs.Names.{List·getD-eq-default, getD-set-same, getD-set-other, eqb, ltb, eqb-true, eq-eqb, ne-eqb, ltb-true, ltb-false, lt-ltb}
-use Rattle.theorems.specs.Names.{leb-true, le-leb, someAgent, idle, noAgent, packets, changed, and-left, and-right, bool-cases, machines, clients}
-use Rattle.theorems.specs.Names.{wireCapacity, machineOf, ownedShared, true≢false, isShared, isFree, messageNames}
+use Rattle.theorems.specs.Names.{_&&_, not, and-false, false≢true, List, [], _∷_, ℕ, _+_, _*_, _≤_, _<_, arith, ℕ-discrete, length, getD, set}
+use Rattle.theorems.specs.Names.{length-set, List·getD-eq-default, getD-set-same, getD-set-other, eqb, ltb, eqb-true, eq-eqb, ne-eqb, ltb-true}
+use Rattle.theorems.specs.Names.{ltb-false, lt-ltb, leb-true, le-leb, someAgent, idle, noAgent, packets, changed, and-left, and-right, bool-cases}
+use Rattle.theorems.specs.Names.{machines, clients, wireCapacity, machineOf, ownedShared, true≢false, isShared, isFree, messageNames}
 use Rattle.theorems.specs.Tally.{flag, tally, tally-set, tally-at, tally-le, tally-none, tally-add, tally-length, sumTo, sum-swap, sum-le, sum-ext}
 use Rattle.theorems.specs.Tally.{sum-one}
 use Rattle.theorems.specs.Weights.{statusAt, slotAt, weight, sameMode, one, hit, hitW, askM, queuedS, waitingP, markM, listedS, listedP, owedM, owedP}
 use Rattle.theorems.specs.Weights.{releaseM, releaseP, agentS, agentP, incarnationS, incarnationP, markAll, markP, rejectedP, heads, vacantS, waitF}
-use Rattle.theorems.specs.Weights.{holdF, idleF, ownedF, clash, farM, farF, ownedMode, ownedAt, few, fitsHome, misfitS, fitsAway, inRange, fits, fitsP}
-use Rattle.theorems.specs.Weights.{misfitP}
+use Rattle.theorems.specs.Weights.{waitsF, holdF, idleF, ownedF, clash, farM, farF, ownedMode, ownedAt, few, fitsHome, misfitS, fitsAway, inRange, fits}
+use Rattle.theorems.specs.Weights.{fitsP, misfitP}
 use Rattle.theorems.specs.Invariant.{Inv}
 use Rattle.theorems.specs.InvariantStep.{Split, told}
 
@@ -26,6 +26,9 @@ flag-none false e = refl
 pub flag-le : (b : Bool) → flag b ≤ 1
 flag-le true = omega arith
 flag-le false = omega arith
+
+pub some-agent-is : (x : AgentSlot) → x .present ≡ true → x ≡ someAgent (x .agent)
+some-agent-is x e = ap (λ (b : Bool). record { present = b; agent = x .agent }) e
 
 -- ---- a slot without an agent counts nothing
 pub record Zero (s : AgentSlot) : Type 0 where
@@ -250,7 +253,7 @@ pub one-each : (c : ClientId) → ltb (c .0) clients ≡ true → sumTo clients 
 unfolding one
 one-each c e = sum-one clients (c .0) (ltb-true (c .0) clients e)
 
-pub as-one : (c : ClientId) → ltb (c .0) clients ≡ true → (f : ℕ → ℕ) → ((d : ℕ) → f d ≡ one d c) → sumTo clients f ≡ 1
+as-one : (c : ClientId) → ltb (c .0) clients ≡ true → (f : ℕ → ℕ) → ((d : ℕ) → f d ≡ one d c) → sumTo clients f ≡ 1
 as-one c e f h = sum-ext clients f (λ d. one d c) h ∙ one-each c e
 
 -- the message names one client below clients, or is FREE
@@ -299,6 +302,13 @@ statuses Idle = refl
 statuses (Waiting Exclusive) = refl
 statuses (Waiting Shared) = refl
 statuses (Holding n) = refl
+
+pub waits-are : (s : Status) → waitF Exclusive s + waitF Shared s ≡ waitsF s
+unfolding waitF waitsF
+waits-are Idle = refl
+waits-are (Waiting Exclusive) = refl
+waits-are (Waiting Shared) = refl
+waits-are (Holding n) = refl
 
 pub waits-one : (m : Mode) (s : Status) → waitF m s ≤ 1
 waits-one Exclusive s = omega (arith, statuses s)

@@ -32,9 +32,9 @@ pub mod Statements
 pub mod Theorems
 pub mod Listings
 -- ---- the drain: its bound, and how it ends
-pub mod Work
-pub mod Distance
-pub mod RankFalls
+pub mod StepsLeft
+pub mod Requests
+pub mod StepsFall
 pub mod Quiescence
 pub mod Drains
 -- ---- the counts that can be made on the screen

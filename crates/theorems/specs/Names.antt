@@ -22,7 +22,7 @@ pub use Rattle.model.specs.declared.{Stepped.Stepped, Outcome.Outcome, Drained.
 pub use mathlib.Core.Path.{_≡_, refl, sym, ap, _∙_}
 pub use mathlib.Core.Bool.{Bool, true, false, _&&_, _||_, not, and-true, and-false, true≢false, false≢true}
 pub use mathlib.Core.List.{List, [], _∷_, _++_, map}
-pub use Prim.Native.Nat.{ℕ, zero, suc, _+_, _-_, _*_, _≤_, _<_, _%_, min}
+pub use Prim.Native.Nat.{ℕ, zero, suc, _+_, _-_, _*_, _≤_, _<_, _%_, min, max}
 pub use native.Mathlib.Omega.{arith}
 pub use native.Mathlib.Decide.{ℕ-discrete}
 pub use lib.ListN.{length, getD, set, replicate, length-set, length-append, List·getD-eq-default}
@@ -41,7 +41,7 @@ pub use Rattle.model.specs.Changes.{siteOf, withDecider, withSlot, withStatus, 
 unfoldable pub use Rattle.model.specs.Changes.{finish}
 pub use Rattle.model.specs.Asking.{changed, joining, queuing, noRoom, withRoom, anyHolder, without, departing, leaves, lists, writerIn}
 unfoldable pub use Rattle.model.specs.Asking.{mayJoin, clientAsks, clientAcquires, handOver, staysIf, clientReleases}
-pub use Rattle.model.specs.AtDecider.{next, ownedShared, grantsWith, grantsFirst, shares, noting, current, rejects, passesOn}
+pub use Rattle.model.specs.AtDecider.{next, sentOn, ownedShared, grantsWith, grantsFirst, shares, noting, current, rejects, passesOn}
 unfoldable pub use Rattle.model.specs.AtDecider.{mayShare, toOwner, decidesAcquire, decidesFree, decidesGrant, decides, atDecider}
 pub use Rattle.model.specs.AtMachine.{sentBack, sendsBack, grantOf, installed, requeued}
 unfoldable pub use Rattle.model.specs.AtMachine.{admitted, staying, joined, installs, grantArrives, rejectedGrantArrives, marked, unmarked, acquireArrives}

@@ -11,12 +11,12 @@ use Rattle.theorems.specs.Names.{LockId, ClientId, Mode, Exclusive, Stat
 use Rattle.theorems.specs.Names.{true, List, [], _∷_, ℕ, _≤_, _<_, length, eqb, leb, all, statusOf, lockIn, packets, freshLock, fresh, wellFormed}
 use Rattle.theorems.specs.Names.{current, packetAt, run, answersOf, perform, lockOf, number, phaseAfter, _+_, _-_, _*_, locks, clients, wireCapacity}
 use Rattle.theorems.specs.Names.{after, _++_, map, Packet, MachineId, Unowned, Owned, LockState, Bool, false, not, _||_, count, agentOn, ownedShared}
-use Rattle.theorems.specs.Names.{names, isFree, agentsIn, marksIn, uncounted, TaskId, Reason, ReasonAnswer, Because, machines, tasks, clientOf}
-use Rattle.theorems.specs.Names.{isTrue, reasonIn, reason, reasonNumber, reasonValues, Waiter, Agent, ToMachine, Grant, _&&_, isShared, waiters, carrying}
+use Rattle.theorems.specs.Names.{names, isFree, agentsIn, marksIn, uncounted, TaskId, Reason, ReasonAnswer, Because, machines, tasks, clientOf, isTrue}
+use Rattle.theorems.specs.Names.{reasonIn, reason, reasonNumber, reasonValues, Waiter, Agent, ToMachine, Grant, _&&_, isShared, waiters, carrying}
 use Rattle.theorems.specs.Names.{removed, grantOf, acquire, release, deliver, preferences, prefersWriters, freshWith, writerIn, Shared, ToDecider}
 use Rattle.theorems.specs.Names.{Message, Free, Acquire, Release, Handling, None, NoAgent, NotHolder, Taken, sentBack, lists, handlingsOf, lastTold}
-use Rattle.theorems.specs.Names.{wireOf, Site, siteOf, mayShare, mayJoin, noting, grantsFirst, grantsWith, passesOn, newAgent, changed}
-use Rattle.theorems.specs.Names.{Found, Nowhere, At, any, IsFirst, min, getD, historyAfter}
+use Rattle.theorems.specs.Names.{wireOf, Site, siteOf, mayShare, mayJoin, noting, grantsFirst, grantsWith, passesOn, newAgent, changed, Found, Nowhere}
+use Rattle.theorems.specs.Names.{At, any, IsFirst, min, getD, historyAfter}
 use lib.ListN.{take}
 
 -- Different answers have different numbers, and 0 is the number of the accepted alone.
@@ -55,9 +55,10 @@ abbrev pub ExclusionOfTrace : ℕ → List Call → Type 0
 ExclusionOfTrace n cs =
     (l : LockId) (c d : ClientId) (m : Mode) → (c .0 ≡ d .0 → ⊥) → phaseAfter n l c cs ≡ Holding Exclusive → phaseAfter n l d cs ≡ Holding m → ⊥
 
--- The steps that a drain takes at most, as proved: 7 for each client and 2 for the agent, and before each of these fewer than three rounds of the wire.
+-- The steps that a drain takes at most, as proved: 12 for each client and 2 for the agent, and 4 for each two clients, since the RELEASE of one can send the
+-- requests of the other round again.
 abbrev pub provedBound : ℕ
-provedBound = (7 * clients + 2) * (3 * wireCapacity) + (3 * wireCapacity - 1)
+provedBound = 12 * clients + 2 + 2 * clients * (clients - 1)
 
 -- A drain of the lock l on the cluster x, in which each client's phase is given.
 pub record Drains (x : Cluster) (l : LockId) (phase : ClientId → Status) : Type 0 where

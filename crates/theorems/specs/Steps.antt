@@ -55,11 +55,16 @@ module _ (k : MachineId) (c : ClientId) where
       le-leb (length rest + length qs) wireCapacity
       (omega (arith, wire-bound (apply k c v qs rest r) i, ap length (packets-of (rest ++ qs)), length-append rest qs))
 
+  pub kept-step : (P : Site → List Packet → Type 0) (Q : LockState → Type 0) (w : Verdict) (rest : List Packet) (r : LockState) → Good r k c rest w → Says P w
+      → ((v : Site) (qs : List Packet) → P v qs → Inv (apply k c v qs rest r) → Q (apply k c v qs rest r)) → Q (finish k c w rest r .state)
+  unfolding finish
+  kept-step P Q cannot-place rest r g p q = absurd g
+  kept-step P Q (does v qs) rest r g p q = rw (room-after v qs rest r (g .inv)) (q v qs p (g .inv))
+
+  -- the same, where the invariant is not needed
   pub after-step : (P : Site → List Packet → Type 0) (Q : LockState → Type 0) (w : Verdict) (rest : List Packet) (r : LockState) → Good r k c rest w → Says P w
       → ((v : Site) (qs : List Packet) → P v qs → Q (apply k c v qs rest r)) → Q (finish k c w rest r .state)
-  unfolding finish
-  after-step P Q cannot-place rest r g p q = absurd g
-  after-step P Q (does v qs) rest r g p q = rw (room-after v qs rest r (g .inv)) (q v qs p)
+  after-step P Q w rest r g p q = kept-step P Q w rest r g p (λ v qs y i. q v qs y)
 
   sound : (w : Verdict) (rest : List Packet) (r : LockState) → Good r k c rest w → Sound (finish k c w rest r)
   unfolding finish

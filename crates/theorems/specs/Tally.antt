@@ -1,6 +1,6 @@
 -- Sums over lists, and sums over the numbers below a bound.
-use Rattle.theorems.specs.Names.{_≡_, refl, sym, Bool, true, false, List, [], _∷_, _++_, map, ℕ, zero, suc, _+_, _*_, _≤_, _<_, arith, ℕ-discrete, length}
-use Rattle.theorems.specs.Names.{getD, set, eqb, eq-eqb, ne-eqb, removed, count, pick}
+use Rattle.theorems.specs.Names.{_≡_, refl, sym, Bool, true, false, List, [], _∷_, _++_, map, ℕ, zero, suc, _+_, _*_, _≤_, _<_, arith, ℕ-discrete}
+use Rattle.theorems.specs.Names.{length, getD, set, eqb, eq-eqb, ne-eqb, removed, count, pick}
 
 abbrev pub flag : Bool → ℕ
 flag true = 1
@@ -137,3 +137,34 @@ sum-one (suc n) c h = go (ℕ-discrete c n) (λ l. sum-one n c l)
     go : Dec (c ≡ n) → (c < n → sumTo n (λ d. flag (eqb c d)) ≡ 1) → flag (eqb c n) + sumTo n (λ d. flag (eqb c d)) ≡ 1
     go (yes q) ih = rw (q, eq-eqb n n refl) (omega (arith, sum-one-far n n (omega arith)))
     go (no q) ih = rw (ne-eqb c n q) (omega (arith, ih (omega arith)))
+
+-- so a number that stands at c alone is the whole sum
+gate-one : (b : Bool) (m : ℕ) → gate b (suc m) ≡ flag b + gate b m
+gate-one true m = omega arith
+gate-one false m = refl
+
+gate-none : (b : Bool) → gate b 0 ≡ 0
+gate-none true = refl
+gate-none false = refl
+
+pub sum-gate : (n c m : ℕ) → c < n → sumTo n (λ d. gate (eqb c d) m) ≡ m
+sum-gate n c zero h = omega (arith, sum-le n 0 (λ d. gate (eqb c d) 0) (λ d. omega (arith, gate-none (eqb c d))))
+sum-gate n c (suc m) h =
+    omega (
+      arith,
+      sum-ext n (λ d. gate (eqb c d) (suc m)) (λ d. flag (eqb c d) + gate (eqb c d) m) (λ d. gate-one (eqb c d) m),
+      sum-add n (λ d. flag (eqb c d)) (λ d. gate (eqb c d) m),
+      sum-one n c h,
+      sum-gate n c m h,
+    )
+
+-- what holds of the numbers holds of their sums
+pub sum-shift : (n : ℕ) (f g h k : ℕ → ℕ) → ((d : ℕ) → f d + g d ≤ h d + k d) → sumTo n f + sumTo n g ≤ sumTo n h + sumTo n k
+unfolding sumTo
+sum-shift zero f g h k e = omega arith
+sum-shift (suc n) f g h k e = omega (arith, e n, sum-shift n f g h k e)
+
+pub sum-twice : (n : ℕ) (f g : ℕ → ℕ) → sumTo n (λ d. 2 * f d + 2 * g d) ≡ 2 * sumTo n f + 2 * sumTo n g
+unfolding sumTo
+sum-twice zero f g = refl
+sum-twice (suc n) f g = omega (arith, sum-twice n f g)

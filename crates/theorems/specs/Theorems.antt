@@ -46,7 +46,7 @@ pub numbered : Numbered
 numbered = record { apart = numbers-apart; accepts = λ a e. numbers-apart a Accepted e }
 
 -- the number that README gives for the drain's bound
-pub proved-bound-is : provedBound ≡ 11384
+pub proved-bound-is : provedBound ≡ 674
 proved-bound-is = refl
 
 pub stays-formed : (n : ℕ) (cs : List Call) → StaysFormed n cs

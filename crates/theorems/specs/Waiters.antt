@@ -93,7 +93,7 @@ any-none c [] e = refl
 any-none c (w ∷ ws) e = bool-cases (eqb (w .client .0) (c .0)) (λ q. absurd (omega (arith, rw q at e))) (λ q. rw q (any-none c ws (omega (arith, rw q at e))))
 
 -- a waiter is far, or is one of all clients
-pub line-length : (ws : List Waiter) → tally farW ws ≡ 0 → length ws ≤ sumTo clients (λ d. tally (oneW d) ws)
+line-length : (ws : List Waiter) → tally farW ws ≡ 0 → length ws ≤ sumTo clients (λ d. tally (oneW d) ws)
 line-length ws z =
     let each : Waiter → ℕ = λ w. sumTo clients (λ d. oneW d w) in
     omega (arith, tally-length ws, tally-le (λ w. 1) (λ w. farW w + each w) here ws, tally-add farW each ws, sum-swap clients oneW ws)
@@ -101,7 +101,7 @@ line-length ws z =
     here : (w : Waiter) → 1 ≤ farW w + sumTo clients (λ d. oneW d w)
     here w = bool-cases (ltb (w .client .0) clients) (λ q. omega (arith, one-each (w .client) q)) (λ q. rw q (omega arith))
 
-pub line-once : (ws : List Waiter) (d : ℕ) → tally (oneW d) ws ≡ tally (hitW d Exclusive) ws + tally (hitW d Shared) ws
+line-once : (ws : List Waiter) (d : ℕ) → tally (oneW d) ws ≡ tally (hitW d Exclusive) ws + tally (hitW d Shared) ws
 line-once ws d = tally-ext (oneW d) _ (λ w. sym (hits d (w .client) (w .mode))) ws ∙ tally-add (hitW d Exclusive) (hitW d Shared) ws
 
 -- the list is counted by `waits`

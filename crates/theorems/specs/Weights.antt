@@ -119,6 +119,12 @@ waitF m Idle = 0
 waitF m (Waiting n) = flag (sameMode n m)
 waitF m (Holding n) = 0
 
+-- in any mode
+unfoldable pub waitsF : Status → ℕ
+waitsF Idle = 0
+waitsF (Waiting n) = 1
+waitsF (Holding n) = 0
+
 unfoldable pub holdF : Status → ℕ
 holdF Idle = 0
 holdF (Waiting n) = 0
