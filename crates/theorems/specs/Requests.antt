@@ -78,8 +78,8 @@ module _ (x x′ r r′ a a′ m m′ e e′ : ℕ) where
       → claims x′ r′ a′ m′ e′ + 1 ≤ claims x r a m e
   unfolding claims
   claims-release ex hx er er′ ha most h hm he he′ z =
-      bool-cases (eqb x 0) (λ q. let w = eqb-true x 0 q in rw (ex, w, er, er′, z) (omega (arith, h w)))
-      (λ q. let w : x ≡ 1 = omega (arith, hx, eqb-false x 0 q) in rw (ex, w, er, er′, z) (omega (arith, w, hm)))
+      bool-cases (eqb x 0) (λ q. let w = eqb-true x 0 q in rw (ex, w, er, er′) (omega (arith, h w, z)))
+      (λ q. let w : x ≡ 1 = omega (arith, hx, eqb-false x 0 q) in rw (ex, w, er, er′) (omega (arith, w, hm, z)))
 
   -- it has none
   claims-none : x′ ≡ 0 → r′ ≡ 0 → a′ ≡ 0 → m′ ≡ 0 → claims x′ r′ a′ m′ e′ ≡ 0

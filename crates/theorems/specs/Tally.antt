@@ -1,5 +1,5 @@
 -- Sums over lists, and sums over the numbers below a bound.
-use Rattle.theorems.specs.Names.{_≡_, refl, sym, Bool, true, false, List, [], _∷_, _++_, map, ℕ, zero, suc, _+_, _*_, _≤_, _<_, arith, ℕ-discrete}
+use Rattle.theorems.specs.Names.{_≡_, refl, sym, _∙_, Bool, true, false, List, [], _∷_, _++_, map, ℕ, zero, suc, _+_, _*_, _≤_, _<_, arith, ℕ-discrete}
 use Rattle.theorems.specs.Names.{length, getD, set, eqb, eq-eqb, ne-eqb, removed, count, pick}
 
 abbrev pub flag : Bool → ℕ
@@ -123,40 +123,28 @@ unfolding sumTo
 sum-add zero f g = refl
 sum-add (suc n) f g = omega (arith, sum-add n f g)
 
--- one of the numbers below n is c
-sum-one-far : (n c : ℕ) → n ≤ c → sumTo n (λ d. flag (eqb c d)) ≡ 0
+-- a number that stands at c alone is the whole sum
+sum-gate-far : (n c m : ℕ) → n ≤ c → sumTo n (λ d. gate (eqb c d) m) ≡ 0
 unfolding sumTo
-sum-one-far zero c h = refl
-sum-one-far (suc n) c h = rw (ne-eqb c n (λ q. omega (arith, q))) (omega (arith, sum-one-far n c (omega arith)))
-
-pub sum-one : (n c : ℕ) → c < n → sumTo n (λ d. flag (eqb c d)) ≡ 1
-unfolding sumTo
-sum-one zero c h = absurd (omega arith)
-sum-one (suc n) c h = go (ℕ-discrete c n) (λ l. sum-one n c l)
-  where
-    go : Dec (c ≡ n) → (c < n → sumTo n (λ d. flag (eqb c d)) ≡ 1) → flag (eqb c n) + sumTo n (λ d. flag (eqb c d)) ≡ 1
-    go (yes q) ih = rw (q, eq-eqb n n refl) (omega (arith, sum-one-far n n (omega arith)))
-    go (no q) ih = rw (ne-eqb c n q) (omega (arith, ih (omega arith)))
-
--- so a number that stands at c alone is the whole sum
-gate-one : (b : Bool) (m : ℕ) → gate b (suc m) ≡ flag b + gate b m
-gate-one true m = omega arith
-gate-one false m = refl
-
-gate-none : (b : Bool) → gate b 0 ≡ 0
-gate-none true = refl
-gate-none false = refl
+sum-gate-far zero c m h = refl
+sum-gate-far (suc n) c m h = rw (ne-eqb c n (λ q. omega (arith, q))) (omega (arith, sum-gate-far n c m (omega arith)))
 
 pub sum-gate : (n c m : ℕ) → c < n → sumTo n (λ d. gate (eqb c d) m) ≡ m
-sum-gate n c zero h = omega (arith, sum-le n 0 (λ d. gate (eqb c d) 0) (λ d. omega (arith, gate-none (eqb c d))))
-sum-gate n c (suc m) h =
-    omega (
-      arith,
-      sum-ext n (λ d. gate (eqb c d) (suc m)) (λ d. flag (eqb c d) + gate (eqb c d) m) (λ d. gate-one (eqb c d) m),
-      sum-add n (λ d. flag (eqb c d)) (λ d. gate (eqb c d) m),
-      sum-one n c h,
-      sum-gate n c m h,
-    )
+unfolding sumTo
+sum-gate zero c m h = absurd (omega arith)
+sum-gate (suc n) c m h = go (ℕ-discrete c n) (λ l. sum-gate n c m l)
+  where
+    go : Dec (c ≡ n) → (c < n → sumTo n (λ d. gate (eqb c d) m) ≡ m) → gate (eqb c n) m + sumTo n (λ d. gate (eqb c d) m) ≡ m
+    go (yes q) ih = rw (q, eq-eqb n n refl) (omega (arith, sum-gate-far n n m (omega arith)))
+    go (no q) ih = rw (ne-eqb c n q) (omega (arith, ih (omega arith)))
+
+-- one of the numbers below n is c
+pub sum-one : (n c : ℕ) → c < n → sumTo n (λ d. flag (eqb c d)) ≡ 1
+sum-one n c h = sum-ext n (λ d. flag (eqb c d)) (λ d. gate (eqb c d) 1) (λ d. as-gate (eqb c d)) ∙ sum-gate n c 1 h
+  where
+    as-gate : (b : Bool) → flag b ≡ gate b 1
+    as-gate true = refl
+    as-gate false = refl
 
 -- what holds of the numbers holds of their sums
 pub sum-shift : (n : ℕ) (f g h k : ℕ → ℕ) → ((d : ℕ) → f d + g d ≤ h d + k d) → sumTo n f + sumTo n g ≤ sumTo n h + sumTo n k
