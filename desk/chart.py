@@ -1,14 +1,14 @@
 """What a picture of one lock shows, by rows: a row for each step, and behind them one for each packet still on the wire at the end."""
 from dataclasses import dataclass, field
 
-from desk.lines import CLIENTS, MACHINES, fresh, status_of
+from desk.lines import CLIENTS, IDLE, MACHINES, fresh, status_of
 from desk.rules import sent_back
 from desk.step import steps
 
 
 @dataclass
 class Flight:
-    """A packet on its way, from the row that sent it to the row that delivered it."""
+    """A packet on its way, from the row that sent it to the row that delivered it, or where it was lost."""
 
     packet: dict
     sender: int  # a machine's number; None for the decider
@@ -16,6 +16,12 @@ class Flight:
     back: bool  # whether a machine sent it back to the decider
     end: int = None
     delivered: bool = False
+    lost: bool = False
+
+    @property
+    def goes_round(self):
+        """Whether the decider sent it to itself, as a RELEASE that finds the lock free."""
+        return self.sender is None and self.packet["to"] is None
 
 
 @dataclass
@@ -40,6 +46,10 @@ class Chart:
     def prefers_writers(self):
         return any(step.prefers_writers for step in self.steps)
 
+    def gives_up(self):
+        """Whether it has losses or clients that give up, which have marks of their own."""
+        return any(step.line["kind"] in ("lose", "give up") for step in self.steps)
+
     def rows(self):
         return len(self.steps) + len(self.left)
 
@@ -56,17 +66,17 @@ def change(spans, old, new, row, idle):
 
 def add_spans(chart, before, after, row):
     for spans, old, new in zip(chart.clients, before["clients"], after["clients"]):
-        change(spans, status_of(old), status_of(new), row, {"status": "idle", "mode": None})
+        change(spans, status_of(old), status_of(new), row, IDLE)
     for spans, old, new in zip(chart.agents, before["agents"], after["agents"]):
         change(spans, old is not None, new is not None, row, False)
     change(chart.writer, before["decider"]["writer"], after["decider"]["writer"], row, False)
 
 
 def add_flights(chart, step, row):
-    """Takes out what the step delivered, and puts what it sent at the end."""
+    """Takes out what the step delivered or lost, and puts what it sent at the end."""
     if step.packet:
-        flight = chart.left.pop(step.line["index"])
-        flight.end, flight.delivered = row, True
+        flight, lost = chart.left.pop(step.line["index"]), step.line["kind"] == "lose"
+        flight.end, flight.delivered, flight.lost = row, not lost, lost
     back = step.packet is not None and step.machine is not None and sent_back(step)
     sent = [Flight(packet, step.machine, row, back) for packet in step.sent]
     chart.flights += sent

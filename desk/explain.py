@@ -1,10 +1,10 @@
 """explain: what each step of a transcript did, in words, from the lines that inspect writes."""
 from desk.command import Options, run
-from desk.lines import WRITERS, agents_of, status_of
+from desk.lines import WRITERS, agents_of
 from desk.refusals import reason
 from desk.rules import said
 from desk.step import steps
-from desk.words import MODES, agent, client, count, decider, packet, place, status_and_why, why
+from desk.words import MODES, VERBS, agent, client, count, decider, packet, place, status_and_why, why
 
 INDENT = "   "
 LAST = {"no agent": "came back, no agent", "not a holder": "came back, not a holder", "taken": "was taken"}
@@ -12,21 +12,20 @@ LATER = {"no agent": "comes back, no agent", "not a holder": "comes back, not a 
 
 
 def asked(line):
-    """What an acquire, a release or a refused delivery asked for, with the record's bytes as they are."""
-    lock = f"lock {line['lock']}"
-    if line["kind"] == "deliver":
-        return f"Index {line['index']} of {lock} is delivered"
-    who = f"Client {line['machine']}/{line['task']}"
-    if line["kind"] == "release":
-        return f"{who} releases {lock}"
-    return f"{who} acquires {lock}, {MODES.get(line['mode'], 'mode ' + str(line['mode']))}"
+    """What a client's step or a refused delivery or loss asked for, with the record's bytes as they are."""
+    lock, verb = f"lock {line['lock']}", VERBS[line["kind"]]
+    if "index" in line:
+        return f"Index {line['index']} of {lock} {verb}"
+    mode = f", {MODES.get(line['mode'], 'mode ' + str(line['mode']))}" if "mode" in line else ""
+    return f"Client {line['machine']}/{line['task']} {verb} {lock}{mode}"
 
 
 def delivered(step):
-    """What an accepted delivery brought, and where."""
+    """What an accepted delivery brought, or what was lost, and where."""
     if step.packet is None:
         return ""
-    return f" to {place(step.packet['to'])}, {packet(step.packet)}"
+    way = " on its way" if step.line["kind"] == "lose" else ""
+    return f"{way} to {place(step.packet['to'])}, {packet(step.packet)}"
 
 
 def but_index(one):
@@ -36,7 +35,7 @@ def but_index(one):
 
 def change_of(number, old, new):
     """What is new of a client: its status, or why it still waits; nothing where only an index moved."""
-    if status_of(old) != status_of(new):
+    if (old["status"], old["mode"]) != (new["status"], new["mode"]):
         yield f"{client(number)} {status_and_why(new, ' now')}."
     elif but_index(old["reason"]) != but_index(new["reason"]):
         yield f"{client(number)} still waits: {why(new['reason'])}."
@@ -108,7 +107,7 @@ def drained(end):
     """What a drain of each lock would come to, from the last state."""
     left = [drain for drain in end["drains"] if drain["answer"] or drain["count"]]
     if not left:
-        return ["Nothing is left to drain: every lock is quiescent, with no packet and no holder."]
+        return ["Nothing is left to drain: every lock is quiescent, with no packet, no holder and no note of a lost GRANT."]
     return [f"A drain of lock {drain['lock']} from here is refused: answer {drain['answer']}." if drain["answer"]
             else f"A drain of lock {drain['lock']} from here takes {count(drain['count'], 'step')}{told_by(drain)}." for drain in left]
 

@@ -16,7 +16,7 @@ def tables():
     found, inside = {}, False
     for line in PAGE.read_text().split("\n"):
         inside = line.startswith("| object | fields, in order |") or inside and line.startswith("|")
-        row = re.fullmatch(r"\| (\w+) \| ((?:`\w+` ?)+)\|", line)
+        row = re.fullmatch(r"\| ([\w ]+) \| ((?:`\w+` ?)+)\|", line)
         if inside and row:
             found[row.group(1)] = re.findall(r"`(\w+)`", row.group(2))
     return found

@@ -1,14 +1,16 @@
 """The lines that `inspect` writes, as docs/inspect.md has them: each is read, held to its form, and given as a dictionary."""
 import json
 
-from desk.reasons import ON_WIRE, reasons
+from desk.reasons import GRANT_LOST, ON_WIRE, reasons
 
-LOCKS, MACHINES, CLIENTS, WIRE = 8, 4, 16, 33
-ANSWERS = {"acquire": (0, 1, 2, 3, 4, 5, 6, 9, 10, 11), "release": (0, 1, 2, 3, 7, 9, 10, 11), "deliver": (0, 1, 8, 9, 10, 11)}
+LOCKS, MACHINES, CLIENTS, WIRE, DRAIN = 8, 4, 16, 49, 32768  # at most so many packets on a wire, and steps of a drain
+ANSWERS = {"acquire": (0, 1, 2, 3, 4, 5, 6, 9, 10, 11), "release": (0, 1, 2, 3, 7, 9, 10, 11), "deliver": (0, 1, 8, 9, 10, 11), "lose": (0, 1, 8, 11, 18),
+           "give up": (0, 1, 2, 3, 10, 11, 17)}
 ENDS = {"end": 0, "bad record": 12, "too long": 13, "bad preference": 16}
 READERS, WRITERS, MALFORMED = 0, 1, 11  # the preferences, and the answer of a cluster made by hand that has another
 STILL_NAMED = 6  # the answer of an acquire while a packet names its client
 HANDLINGS = "no agent", "not a holder", "taken"
+IDLE = {"status": "idle", "mode": None, "lost": False}
 
 
 class NotLines(Exception):
@@ -52,20 +54,22 @@ FORMS = {
     "acquire": record("acquire", "lock", "machine", "task", "mode", named=or_null(number(WIRE - 1))),
     "release": record("release", "lock", "machine", "task"),
     "deliver": record("deliver", "lock", "index"),
+    "lose": record("lose", "lock", "index"),
+    "give up": record("give up", "lock", "machine", "task"),
     "counts": {"agents": number(MACHINES + WIRE), "marked": number(WIRE)},
     "state": {"decider": thing("decider"), "agents": rows(or_null(thing("agent")), MACHINES),
               "clients": rows(thing("client"), CLIENTS), "wire": rows(thing("packet"))},
     "decider": {"mode": one_of(0, 2, 3), "machine": or_null(number(MACHINES - 1)), "incarnation": BYTE, "writer": FLAG},
     "agent": {"mode": MODE, "holders": rows(CLIENT), "queue": rows(thing("waiter")), "incarnation": BYTE},
     "waiter": {"client": CLIENT, "mode": MODE},
-    "client": {"status": one_of("idle", "waiting", "holding"), "mode": or_null(MODE), "reason": or_null(thing("reason"))},
-    "reason": {"kind": one_of(*ON_WIRE, "queue"), "index": or_null(number(WIRE - 1)), "machine": or_null(number(MACHINES - 1)),
+    "client": {"status": one_of("idle", "waiting", "holding"), "mode": or_null(MODE), "lost": FLAG, "reason": or_null(thing("reason"))},
+    "reason": {"kind": one_of(*ON_WIRE, "queue", GRANT_LOST), "index": or_null(number(WIRE - 1)), "machine": or_null(number(MACHINES - 1)),
                "ahead": or_null(number(CLIENTS - 1))},
     "packet": {"kind": one_of("ACQUIRE", "GRANT", "RELEASE", "FREE"), "to": or_null(number(MACHINES - 1)), "client": or_null(CLIENT),
                "mode": or_null(MODE), "granted": FLAG, "rejected": FLAG, "circled": BYTE, "agent": or_null(thing("agent"))},
     "end": {"end": one_of(*ENDS), "answer": one_of(*ENDS.values()), "records": number(65535), "handling": HANDLING, "preference": BYTE,
             "drains": rows(thing("drain"), LOCKS)},
-    "drain": {"lock": number(LOCKS - 1), "answer": one_of(0, 9, 10, 11, 14), "count": number(16384), "handling": HANDLING},
+    "drain": {"lock": number(LOCKS - 1), "answer": one_of(0, 9, 10, 11, 14), "count": number(DRAIN), "handling": HANDLING},
 }
 
 
@@ -79,15 +83,17 @@ def whole_packet(packet):
 
 
 def whole_reason(reason):
-    """What a reason of its kind has, and what it does not have: an index or a machine, and only a queue has a machine and a number ahead."""
-    queue = reason["kind"] == "queue"
-    return ((reason["index"] is None) != (reason["machine"] is None) and (reason["ahead"] is not None) == queue
+    """What a reason of its kind has, and what it does not have: an index or a machine, but a lost GRANT neither; only a queue has a machine and a number
+    ahead."""
+    queue, places = reason["kind"] == "queue", sum(reason[field] is not None for field in ("index", "machine"))
+    return (places == (reason["kind"] != GRANT_LOST) and (reason["ahead"] is not None) == queue
             and (queue or reason["machine"] is None))
 
 
 def whole_client(client):
-    """An idle client has no mode, and only a waiting one a reason."""
-    return (client["status"] == "idle") == (client["mode"] is None) and (client["reason"] is None or client["status"] == "waiting")
+    """An idle client has no mode, and only a waiting one a reason, or the note that its GRANT was lost."""
+    return ((client["status"] == "idle") == (client["mode"] is None)
+            and (client["status"] == "waiting" or client["reason"] is None and not client["lost"]))
 
 
 def whole_state(state):
@@ -97,7 +103,7 @@ def whole_state(state):
 
 def status_of(client):
     """A client without its reason, which can change while its status stays."""
-    return {"status": client["status"], "mode": client["mode"]}
+    return {field: client[field] for field in ("status", "mode", "lost")}
 
 
 def agents_of(state):
@@ -144,8 +150,8 @@ def whole_end(end):
 
 
 WHOLE = {
-    "acquire": whole_acquire, "release": whole_record, "deliver": whole_record, "packet": whole_packet, "reason": whole_reason, "client": whole_client,
-    "state": whole_state,
+    "acquire": whole_acquire, "release": whole_record, "deliver": whole_record, "lose": whole_record, "give up": whole_record,
+    "packet": whole_packet, "reason": whole_reason, "client": whole_client, "state": whole_state,
     "decider": lambda decider: (decider["mode"] == 0) == (decider["machine"] is None),
     "agent": lambda agent: agent["holders"] == sorted(set(agent["holders"])),
     "end": whole_end,
@@ -156,7 +162,7 @@ WHOLE = {
 def fresh():
     """The state of a lock at the beginning."""
     return {"decider": {"mode": 0, "machine": None, "incarnation": 0, "writer": False}, "agents": [None] * MACHINES,
-            "clients": [{"status": "idle", "mode": None, "reason": None} for _ in range(CLIENTS)], "wire": []}
+            "clients": [{**IDLE, "reason": None} for _ in range(CLIENTS)], "wire": []}
 
 
 def name_of(line):

@@ -2,6 +2,7 @@
 the order below goes."""
 
 ON_WIRE = ("ACQUIRE", "GRANT", "rejected GRANT")  # in the order in which they go; behind them come the queues
+GRANT_LOST = "grant lost"  # the last
 
 
 def reason(kind, index=None, machine=None, ahead=None):
@@ -38,9 +39,14 @@ def from_queues(state):
             yield from from_queue(packet["agent"], index=index)
 
 
+def from_notes(clients):
+    """The same for those who have the note that their GRANT was lost."""
+    return ((number, reason(GRANT_LOST)) for number, client in enumerate(clients) if client["lost"])
+
+
 def reasons(state):
     """The reason of each client, by number: for a waiting one the first that is true; None for the others, and where none is true."""
     first = {}
-    for number, found in (*from_packets(state["wire"]), *from_queues(state)):
+    for number, found in (*from_packets(state["wire"]), *from_queues(state), *from_notes(state["clients"])):
         first.setdefault(number, found)
     return [first.get(number) if client["status"] == "waiting" else None for number, client in enumerate(state["clients"])]

@@ -1,11 +1,11 @@
 """Why a step was refused: a sentence for each answer of docs/protocol.md, from the record and the state that it met."""
 from desk.lines import CLIENTS, LOCKS, MACHINES, READERS, WIRE, WRITERS
-from desk.rules import joins
-from desk.words import MODES, client, count, packet, status
+from desk.rules import can_be_lost, has_queued, joins
+from desk.words import MODES, client, count, packet, place, status
 
 
 def caller(step):
-    """The client of an acquire or a release as the state has it."""
+    """The client that acquires, releases or gives up as the state has it."""
     return step.after["clients"][step.client]
 
 
@@ -32,6 +32,11 @@ def not_holding(step):
     return f"The client does not hold: it {status(caller(step))}."
 
 
+def not_waiting(step):
+    step.need(caller(step)["status"] != "waiting")
+    return f"The client does not wait: it {status(caller(step))}."
+
+
 def no_packet(step):
     packets, index = len(step.after["wire"]), step.line["index"]
     step.need(index >= packets)
@@ -39,14 +44,26 @@ def no_packet(step):
     return f"There is no packet at index {index}: {there}."
 
 
+def named_packet(step):
+    """The packet at the index of a delivery or a loss, which must be there."""
+    step.need(step.line["index"] < len(step.after["wire"]))
+    return step.after["wire"][step.line["index"]]
+
+
+def not_lost(step):
+    stays = named_packet(step)
+    step.need(not can_be_lost(stays))
+    return f"This packet cannot be lost, {packet(stays)}, to {place(stays['to'])}: only a GRANT without agent on its way to a machine can."
+
+
 def no_place(step):
     """Which of the causes of answer 9 it is."""
     if step.line["kind"] != "deliver":
         return "There is no place for what comes: " + queue_refuses(step, step.after["agents"][step.machine], step.client, step.line.get("mode"))
-    step.need(step.line["index"] < len(step.after["wire"]))
-    comes = step.after["wire"][step.line["index"]]
+    comes = named_packet(step)
     begun = f"There is no place for what comes, {packet(comes)}: "
     if comes["to"] is None:
+        step.need(step.after["decider"]["mode"] == 0 and (comes["granted"] or comes["agent"] is not None))
         return begun + "the lock is free and has no owner to send it to."
     there = step.after["agents"][comes["to"]]
     if there is not None and comes["agent"] is not None:
@@ -60,13 +77,16 @@ def no_place(step):
 def queue_refuses(step, agent, number, mode):
     """Why a client that asks in a mode cannot join an agent's queue, or, without a mode here, go back to it."""
     step.need(agent is not None and number is not None and not joins(step, agent, mode))
-    if any(waiter["client"] == number for waiter in agent["queue"]):
+    if has_queued(agent, number):
         return f"{client(number)} stands in the agent's queue already."
     step.need(len(agent["queue"]) >= CLIENTS)
     return f"the agent's queue has {count(len(agent['queue']), 'client')}, and {CLIENTS} is the most."
 
 
 def no_room(step):
+    """A client's own step sends one packet at most, and only a client that waits can give up."""
+    step.need(step.line["kind"] == "deliver" or len(step.after["wire"]) == WIRE)
+    step.need(step.line["kind"] != "give up" or caller(step)["status"] == "waiting")
     return f"The wire has no room for what is sent: it has {count(len(step.after['wire']), 'packet')}, and {WIRE} is the most."
 
 
@@ -92,6 +112,8 @@ REASONS = {
     9: no_place,
     10: no_room,
     11: malformed,
+    17: not_waiting,
+    18: not_lost,
 }
 
 

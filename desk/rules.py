@@ -1,6 +1,6 @@
 """What each rule of docs/protocol.md did in a step: its sentences, from the packet, what was sent, and the states before and after."""
-from desk.lines import fresh, status_of
-from desk.words import CIRCLES, EXCLUSIVE, MODES, SHARED, circled, client, clients, packet
+from desk.lines import IDLE, fresh
+from desk.words import CIRCLES, EXCLUSIVE, MODES, SHARED, circled, client, clients, left, packet
 
 
 def at(step, number=0):
@@ -17,13 +17,23 @@ def agent_after(step):
 
 
 def sent_one(step, kind, to):
-    """The only packet sent, which must be of this kind, go there and be a new one."""
+    """The only packet sent, which must be of this kind and of the step's client, go there and be a new one."""
     step.need(len(step.sent) == 1 and step.sent[0]["kind"] == kind and step.sent[0]["to"] == to and not step.sent[0]["circled"])
+    step.need(step.sent[0]["client"] == step.client)
     return step.sent[0]
+
+
+def status_before(step):
+    """What the step's client did: idle, waiting or holding."""
+    return step.before["clients"][step.client]["status"]
 
 
 def lists(agent, number):
     return agent is not None and number in agent["holders"]
+
+
+def has_queued(agent, number):
+    return any(waiter["client"] == number for waiter in agent["queue"])
 
 
 def preferred(step, agent):
@@ -63,20 +73,12 @@ def client_acquires(step):
     mode = step.line["mode"]
     if agent_before(step) is None:
         asked = sent_one(step, "ACQUIRE", None)
-        becomes(step, "waiting")
         return [f"Machine {step.machine} has no agent: {packet(asked)}, goes to the decider, {at(step)}."]
     if not joins(step, agent_before(step), mode):
-        becomes(step, "waiting")
         return queued(step, mode, "it")
-    becomes(step, "holding")
     step.agent_is_as_it_was(holders=listed(step))
     step.need(not step.sent)
     return [f"Agent and request are shared: the agent on machine {step.machine} lists it, and it holds at once."]
-
-
-def becomes(step, status):
-    """What the client that acquires does from now on."""
-    step.need(status_of(step.after["clients"][step.client]) == {"status": status, "mode": step.line["mode"]})
 
 
 def client_releases(step):
@@ -86,11 +88,11 @@ def client_releases(step):
     return [f"{not_listed(step)}: {packet(released)} goes to the decider, {at(step)}."]
 
 
-def not_listed(step):
+def not_listed(step, words="does not list {}"):
     """Why an agent cannot strike the client off."""
     if agent_before(step) is None:
         return f"Machine {step.machine} has no agent"
-    return f"The agent on machine {step.machine} does not list {client(step.client)}"
+    return f"The agent on machine {step.machine} {words.format(client(step.client))}"
 
 
 def strikes_off(step):
@@ -104,6 +106,28 @@ def strikes_off(step):
         return [f"{begun}, its last holder, and nobody waits: the agent leaves for the decider in a FREE, {at(step)}."]
     granted = client(step.sent[0]["client"])
     return [f"{begun}, its last holder: the agent leaves for the decider in a GRANT for {granted}, the first of its queue, {at(step)}."]
+
+
+def client_gives_up(step):
+    """Whoever gives up sends a RELEASE, also where the agent on its machine has it in its queue: what is left of its request goes on."""
+    step.need(status_before(step) == "waiting")
+    was, released = step.before["clients"][step.client], sent_one(step, "RELEASE", None)
+    note = ["The note that its GRANT was lost is dropped."] if was["lost"] else []
+    return [f"{packet(released)} goes to the decider, {at(step)}.", *note, *left(was["reason"])]
+
+
+# On the wire.
+
+MISSED = {"waiting": "is noted as having lost it", "idle": "has given up and does not miss it", "holding": "holds already and does not miss it"}
+
+
+def can_be_lost(one):
+    return one["kind"] == "GRANT" and one["agent"] is None and one["to"] is not None
+
+
+def grant_lost(step):
+    step.need(can_be_lost(step.packet) and not step.sent)
+    return [f"The GRANT never arrives: {client(step.client)} {MISSED[status_before(step)]}."]
 
 
 # At the decider.
@@ -163,7 +187,11 @@ def sent_on(step, it, **but):
 
 
 def release_at_decider(step):
-    return sent_on(step, "It")
+    if step.before["decider"]["mode"]:
+        return sent_on(step, "It")
+    step.decider_is_as_it_was()
+    step.need(step.sent == [step.packet])
+    return [f"The lock is free: the RELEASE goes to the end of the wire, {at(step)}, still for the decider."]
 
 
 def counts(step):
@@ -220,15 +248,24 @@ def learns(step):
 # At a machine.
 
 def grant_at_machine(step):
+    of, gave_up = client(step.client), status_before(step) == "idle"
     if step.packet["rejected"]:
-        return brought_back(step, f", and {client(step.client)} stands first in its queue again")
+        return brought_back(step, f", and {of} stands first in its queue again" + (", though it has given up" if gave_up else ""))
     if step.packet["agent"] is None:
-        step.need(not step.sent)
-        return [f"It makes {client(step.client)} a holder; the agent is not inside."]
-    step.need(lists(agent_after(step), step.client))
+        step.need(not step.sent and agent_after(step) == agent_before(step))
+        return [f"{of} has given up and stays idle; the agent is not inside." if gave_up else f"It makes {of} a holder; the agent is not inside."]
+    return installed(step, [f"{of} has given up and stays idle: the agent lists it all the same, until its RELEASE comes."] if gave_up else [])
+
+
+def installed(step, gave_up):
+    """An agent that arrives in a GRANT, who joins its holders from the queue and who stays there."""
+    carried, of = step.packet["agent"], client(step.client)
+    holders = {*carried["holders"], step.client, *(sent["client"] for sent in step.sent)}
+    step.need(agent_before(step) is None and agent_after(step) is not None)
+    step.need(agent_after(step) == {**carried, "mode": step.packet["mode"], "holders": sorted(holders), "queue": agent_after(step)["queue"]})
     told = [f"{client(sent['client'])} joins the holders from the queue: {packet(sent)}, goes to the decider, {at(step, number)}."
             for number, sent in enumerate(step.sent)]
-    return [f"The agent is installed on machine {step.machine}, {MODES[agent_after(step)['mode']]}, and lists {client(step.client)}.", *told, *stays(step)]
+    return [f"The agent is installed on machine {step.machine}, {MODES[step.packet['mode']]}, and lists {of}.", *gave_up, *told, *stays(step)]
 
 
 def stays(step):
@@ -248,7 +285,8 @@ def stays(step):
 
 
 def brought_back(step, more=""):
-    step.need(agent_before(step) is None and agent_after(step) is not None and not step.sent)
+    carried, again = step.packet["agent"], [] if step.client is None else [{"client": step.client, "mode": step.packet["mode"]}]
+    step.need(agent_before(step) is None and agent_after(step) == {**carried, "queue": [*again, *carried["queue"]]} and not step.sent)
     return [f"The agent is back on machine {step.machine} as it left{more}."]
 
 
@@ -268,15 +306,17 @@ def goes_back(step):
 
 
 def handled(step):
-    """The handling that the states show: whether the machine has an agent, and for a RELEASE whether that lists its client."""
-    if agent_before(step) is None:
+    """The handling that the states show: whether the machine has an agent, and for a RELEASE whether that lists its client or has it in its queue."""
+    agent = agent_before(step)
+    if agent is None:
         return "no agent"
-    return "taken" if step.packet["kind"] == "ACQUIRE" or lists(agent_before(step), step.client) else "not a holder"
+    return "taken" if step.packet["kind"] == "ACQUIRE" or lists(agent, step.client) or has_queued(agent, step.client) else "not a holder"
 
 
 def came_back(step):
-    """A request that is not taken goes back, and no other does."""
+    """A request that is not taken goes back and leaves the agent as it is, and no other does."""
     step.need(sent_back(step) == (step.line["handling"] != "taken"))
+    step.need(not sent_back(step) or agent_after(step) == agent_before(step))
     return sent_back(step)
 
 
@@ -307,23 +347,54 @@ def marked_at_machine(step):
 
 def release_at_machine(step):
     if came_back(step):
-        return [f"{not_listed(step)}: {goes_back(step)}"]
-    return strikes_off(step)
+        return [f"{not_listed(step, 'neither lists {} nor has it in its queue')}: {goes_back(step)}"]
+    return strikes_off(step) if lists(agent_before(step), step.client) else taken_off(step)
 
 
-AT_CLIENT = {"acquire": client_acquires, "release": client_releases}
+def taken_off(step):
+    """Whoever has given up leaves the queue: nobody joins the holders for that, and no agent leaves."""
+    step.agent_is_as_it_was(queue=[waiter for waiter in agent_before(step)["queue"] if waiter["client"] != step.client])
+    step.need(not step.sent)
+    return [f"The agent on machine {step.machine} takes {client(step.client)} off its queue and stays; nobody joins its holders for that."]
+
+
+AT_CLIENT = {"acquire": client_acquires, "release": client_releases, "give up": client_gives_up}
 AT_DECIDER = {"ACQUIRE": acquire_at_decider, "GRANT": grant_at_decider, "RELEASE": release_at_decider, "FREE": free_at_decider}
 AT_MACHINE = {"ACQUIRE": acquire_at_machine, "GRANT": grant_at_machine, "RELEASE": release_at_machine, "FREE": free_at_machine}
 
 
-def said(step):
-    """The sentences of the rule by which an accepted step went. Only a request at a machine has a handling."""
-    requested = step.packet is not None and step.packet["to"] is not None and step.packet["kind"] in ("ACQUIRE", "RELEASE")
-    step.need(step.line["handling"] == (handled(step) if requested else None))
+def becomes(step):
+    """What is new of the step's client afterwards."""
+    kind = step.line["kind"]
+    if kind in ("release", "give up"):
+        return IDLE
+    if kind == "acquire":
+        agent, mode = agent_before(step), step.line["mode"]
+        return {"status": "holding" if agent is not None and joins(step, agent, mode) else "waiting", "mode": mode}
+    if kind == "lose":
+        return {"lost": True} if status_before(step) == "waiting" else {}
+    granted = step.machine is not None and step.packet["kind"] == "GRANT" and not step.packet["rejected"]
+    return {"status": "holding", "mode": step.packet["mode"], "lost": False} if granted and status_before(step) != "idle" else {}
+
+
+def rule_of(step):
+    """The rule by which an accepted step went."""
     if step.packet is None:
+        return AT_CLIENT[step.line["kind"]]
+    if step.line["kind"] == "lose":
+        return grant_lost
+    return (AT_DECIDER if step.machine is None else AT_MACHINE)[step.packet["kind"]]
+
+
+def said(step):
+    """The sentences of that rule. Only a request at a machine has a handling, only a step at the decider changes the decider, and only one at a machine the
+    agent there."""
+    delivered, rule = step.line["kind"] == "deliver", rule_of(step)
+    requested = delivered and step.machine is not None and step.packet["kind"] in ("ACQUIRE", "RELEASE")
+    step.need(step.line["handling"] == (handled(step) if requested else None))
+    if step.machine is not None:
         step.decider_is_as_it_was()
-        return AT_CLIENT[step.line["kind"]](step)
-    if step.packet["to"] is None:
-        return AT_DECIDER[step.packet["kind"]](step)
-    step.decider_is_as_it_was()
-    return AT_MACHINE[step.packet["kind"]](step)
+    step.agents_are_as_they_were(but=None if rule in (grant_lost, client_gives_up) else step.machine)
+    sentences = rule(step)
+    step.clients_are_as_they_were(**becomes(step))
+    return sentences

@@ -1,8 +1,8 @@
-"""A step as its line and the state before it show it: the packet that it took out and those that it sent. Packets have no names: a delivery takes one out
-at its index, the later ones move up, and what is sent stands behind them."""
+"""A step as its line and the state before it show it: the packet that it took out and those that it sent. Packets have no names: a delivery or a loss takes
+one out at its index, the later ones move up, and what is sent stands behind them."""
 from dataclasses import dataclass
 
-from desk.lines import WRITERS, NotLines, fresh
+from desk.lines import WRITERS, NotLines, fresh, status_of
 
 
 @dataclass
@@ -12,7 +12,7 @@ class Step:
     line: dict
     before: dict
     after: dict
-    packet: dict  # what a delivery took out, else None
+    packet: dict  # what a delivery or a loss took out, else None
     sent: list
     first: int  # the index of the first packet sent
 
@@ -23,12 +23,12 @@ class Step:
 
     @property
     def client(self):
-        """The number of the client that acquires or releases, or that the packet is of."""
+        """The number of the client that acquires, releases or gives up, or that the packet is of."""
         return self.packet["client"] if self.packet else 4 * self.line["machine"] + self.line["task"]
 
     @property
     def machine(self):
-        """The machine at which the step happens; None for the decider."""
+        """The machine at which the step happens, or to which a lost packet was on its way; None for the decider."""
         return self.packet["to"] if self.packet else self.line["machine"]
 
     @property
@@ -43,6 +43,18 @@ class Step:
         """The same for the agent on the machine."""
         self.need(self.after["agents"][self.machine] == {**self.before["agents"][self.machine], **but})
 
+    def agents_are_as_they_were(self, but):
+        """The agent on every machine is as it was, but for this machine's, or for none."""
+        kept = [[agent for machine, agent in enumerate(state["agents"]) if machine != but] for state in (self.before, self.after)]
+        self.need(kept[0] == kept[1])
+
+    def clients_are_as_they_were(self, **but):
+        """Every client does what it did, whatever its reason is now, but for these fields of the step's own."""
+        expected = [status_of(one) for one in self.before["clients"]]
+        if but:
+            expected[self.client].update(but)
+        self.need([status_of(one) for one in self.after["clients"]] == expected)
+
 
 def step_of(line, before):
     """The step of a line, from the state before it."""
@@ -52,7 +64,7 @@ def step_of(line, before):
         step.need(after in (None, before))
         return step
     rest = list(before["wire"])
-    if line["kind"] == "deliver":
+    if "index" in line:
         step.need(line["index"] < len(rest))
         step.packet = rest.pop(line["index"])
     else:

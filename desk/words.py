@@ -1,8 +1,10 @@
 """The parts of a lock in the words of docs/protocol.md."""
+from desk.reasons import GRANT_LOST
 
 EXCLUSIVE, SHARED = 2, 3
 CIRCLES = 255  # the most that a packet's count says
 MODES = {EXCLUSIVE: "exclusive", SHARED: "shared"}
+VERBS = {"acquire": "acquires", "release": "releases", "give up": "gives up", "deliver": "is delivered", "lose": "is lost"}
 STATUSES = {"idle": "is idle", "waiting": "waits", "holding": "holds"}
 UNDER_WAY = {"ACQUIRE": "its ACQUIRE is", "GRANT": "its GRANT is", "rejected GRANT": "its GRANT was rejected and is"}
 
@@ -48,15 +50,25 @@ def status(client, when=""):
     return words if client["mode"] is None else f"{words}, {MODES[client['mode']]}"
 
 
-def why(reason):
+def why(reason, still=""):
     """The reason for a client's wait; a state made by hand may give none."""
     if reason is None:
         return "no reason is found"
+    if reason["kind"] == GRANT_LOST:
+        return "its GRANT was lost"
     if reason["kind"] != "queue":
-        return f"{UNDER_WAY[reason['kind']]} on the wire, at index {reason['index']}"
+        return f"{UNDER_WAY[reason['kind']]}{still} on the wire, at index {reason['index']}"
     whose = f"of the agent in the packet at index {reason['index']}" if reason["machine"] is None else f"on machine {reason['machine']}"
     ahead = f"behind {count(reason['ahead'], 'other')}" if reason["ahead"] else "first"
     return f"{ahead} in the queue {whose}"
+
+
+def left(reason):
+    """What is left of the request of a client that gives up, which waited for this reason; nothing where its GRANT was lost."""
+    if reason is None or reason["kind"] == GRANT_LOST:
+        return []
+    words = why(reason, " still")
+    return [f"It is still {words}." if reason["kind"] == "queue" else f"I{words[1:]}."]
 
 
 def status_and_why(client, when=""):

@@ -20,10 +20,12 @@ pub enum Refusal {
     /// Also of a hand-made wait that has no reason.
     NotWaiting,
     PreferenceInvalid,
+    NothingToGiveUp,
+    CannotBeLost,
 }
 
 impl Refusal {
-    /// The refusal's number (document 01, 'Zero and the refusals'; 15 and 16: document 02, §2 and §5).
+    /// The refusal's number (document 01, 'Zero and the refusals'; 15 to 18: document 02, §2, §5 and §8).
     pub fn number(self) -> u8 {
         match self {
             Refusal::LockOutOfRange => 1,
@@ -42,6 +44,8 @@ impl Refusal {
             Refusal::NotQuiescent => 14,
             Refusal::NotWaiting => 15,
             Refusal::PreferenceInvalid => 16,
+            Refusal::NothingToGiveUp => 17,
+            Refusal::CannotBeLost => 18,
         }
     }
 }
@@ -54,7 +58,7 @@ pub enum Handling {
     None,
     /// No agent is here.
     NoAgent,
-    /// An agent is here, but the client of the RELEASE is not among its holders.
+    /// An agent is here, but the client of the RELEASE is neither among its holders nor in its queue.
     NotHolder,
     Taken,
 }

@@ -1,4 +1,4 @@
-//! How often each packet was sent back in truth, and what holds of its count (document 02, §7).
+//! How often each packet was sent back in truth, and what holds of its count (document 02, §7 and §8).
 //!
 //! The true numbers have no bound. They are read from the packets that the steps take off a wire and send, never from a count,
 //! so that a fault in the counts shows. ACQUIREs and RELEASEs of hand-made states keep to it too.
@@ -21,7 +21,7 @@ pub enum Origin {
 #[derive(Clone, Copy, Debug, PartialEq, Eq)]
 pub struct WireBefore {
     packets: usize,
-    /// The packet that a delivery takes off; an acquire or release takes none.
+    /// The packet that a delivery or a loss takes off; what a client does takes none.
     taken: Option<Taken>,
 }
 
@@ -30,10 +30,12 @@ struct Taken {
     index: usize,
     message: Message,
     address: Address,
+    /// Whether it is a RELEASE at a free decider, which has nobody to send it on to.
+    stays: bool,
 }
 
 impl WireBefore {
-    /// Before an acquire or release.
+    /// Before an acquire, a release or a give up.
     pub fn of_request(state: &LockState) -> Self {
         WireBefore {
             packets: state.wire.len(),
@@ -41,7 +43,7 @@ impl WireBefore {
         }
     }
 
-    /// Before the delivery of an index. With an empty wire a drain releases instead, and takes nothing off.
+    /// Before the delivery, or the loss, of an index. With an empty wire there is none to take off.
     pub fn of_delivery(state: &LockState, index: usize) -> Self {
         let packet = state.wire.get(index);
         WireBefore {
@@ -49,6 +51,9 @@ impl WireBefore {
                 index,
                 message: packet.message,
                 address: packet.address,
+                stays: matches!(packet.message, Message::Release { .. })
+                    && packet.address == Address::Decider
+                    && state.decider.owner.is_none(),
             }),
             ..WireBefore::of_request(state)
         }
@@ -67,10 +72,11 @@ impl WireBefore {
         from.is_some_and(|from| from != Address::Decider) && sent.address == Address::Decider
     }
 
-    /// Whether a sent packet was delivered to the decider and goes on to a machine.
+    /// Whether a sent packet was delivered to the decider and goes on to a machine, or stays with the decider of a free lock.
     fn is_on(&self, sent: &Packet) -> bool {
         let from = self.taken_with(sent.message);
-        from == Some(Address::Decider) && sent.address != Address::Decider
+        let stays = self.taken.is_some_and(|taken| taken.stays);
+        from == Some(Address::Decider) && (sent.address == Address::Decider) == stays
     }
 
     /// The number of a sent packet, after that of the taken one.

@@ -1,11 +1,11 @@
-//! What can be counted in a lock's state, and what holds of it in every run (document 02, §1).
+//! What can be counted in a lock's state, and what holds of it in every run (document 02, §1 and §8).
 //!
 //! Hand-made states need not keep to any of it, so no call looks at it.
 
 use crate::model::{Agent, LockState, Message, Mode, WIRE_CAPACITY};
 
-/// A client's marked ACQUIRE, and its GRANT or, once that has come, its RELEASE.
-const PACKETS_OF_A_CLIENT: u16 = 2;
+/// A client's marked ACQUIRE, its GRANT and, where it gave up before that came, its RELEASE.
+const PACKETS_OF_A_CLIENT: u16 = 3;
 /// A client's number is one byte, also in a hand-made state.
 const CLIENT_NUMBERS: usize = 256;
 

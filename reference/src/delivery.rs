@@ -1,4 +1,4 @@
-//! Delivery of a packet (document 01, 'At the decider' and 'At a machine'; document 02, §3 to §5 and §7).
+//! Delivery of a packet (document 01, 'At the decider' and 'At a machine'; document 02, §3 to §5, §7 and §8).
 //!
 //! A delivery first chooses its action, which tests refusal 9, then counts the
 //! packets that the action sends, which tests refusal 10, and only then
@@ -26,14 +26,16 @@ enum Action {
     TransferAgent,
     /// The decider rejects the agent that the packet carries.
     RejectAgent(Owner),
+    /// The decider of a free lock keeps a RELEASE under way until there is an agent for it.
+    Postpone,
     /// A machine shows a client its grant, which brings no agent.
     ShowGrant,
     /// A machine shows a client its grant and installs the agent with it.
     InstallAgent(MachineId),
     /// A machine without an agent sends an ACQUIRE or RELEASE back.
     SendBackWithoutAgent,
-    /// A machine sends back the RELEASE of a client that its agent does not list.
-    SendBackUnlisted,
+    /// A machine sends back the RELEASE of a client that its agent neither lists nor has in its queue.
+    SendBackUnknown,
     /// The agent lists the client of an ACQUIRE that the decider granted.
     ConfirmHolder(MachineId),
     /// The agent lists the client of a shared request and grants it.
@@ -42,6 +44,8 @@ enum Action {
     Enqueue(MachineId),
     /// The agent removes a holder.
     RemoveHolder(MachineId),
+    /// The agent takes a client that gave up off its queue.
+    RemoveWaiter(MachineId),
     /// A machine takes a rejected agent back.
     RestoreAgent(MachineId),
 }
@@ -51,17 +55,19 @@ impl Action {
     fn handling(self) -> Handling {
         match self {
             Action::SendBackWithoutAgent => Handling::NoAgent,
-            Action::SendBackUnlisted => Handling::NotHolder,
+            Action::SendBackUnknown => Handling::NotHolder,
             Action::ConfirmHolder(_)
             | Action::AddHolder(_)
             | Action::Enqueue(_)
-            | Action::RemoveHolder(_) => Handling::Taken,
+            | Action::RemoveHolder(_)
+            | Action::RemoveWaiter(_) => Handling::Taken,
             Action::CreateAgent
             | Action::GrantShared(_)
             | Action::Forward(_)
             | Action::FreeLock
             | Action::TransferAgent
             | Action::RejectAgent(_)
+            | Action::Postpone
             | Action::ShowGrant
             | Action::InstallAgent(_)
             | Action::RestoreAgent(_) => Handling::None,
@@ -109,13 +115,15 @@ impl LockState {
             | Action::Forward(_)
             | Action::TransferAgent
             | Action::RejectAgent(_)
+            | Action::Postpone
             | Action::SendBackWithoutAgent
-            | Action::SendBackUnlisted
+            | Action::SendBackUnknown
             | Action::AddHolder(_) => 1,
             Action::FreeLock
             | Action::ShowGrant
             | Action::ConfirmHolder(_)
             | Action::Enqueue(_)
+            | Action::RemoveWaiter(_)
             | Action::RestoreAgent(_) => 0,
             Action::InstallAgent(_) => packet.leaving_waiters(),
             Action::RemoveHolder(machine) => match packet.message.client() {
@@ -155,14 +163,7 @@ impl LockState {
                     Err(Refusal::CannotBePlaced)
                 }
             }
-            (Message::Release { client }, Some(agent)) => {
-                let is_listed = agent.holders.contains(client);
-                Ok(if is_listed {
-                    Action::RemoveHolder(machine)
-                } else {
-                    Action::SendBackUnlisted
-                })
-            }
+            (Message::Release { client }, Some(agent)) => Ok(agent.release_action(machine, client)),
             (Message::Free, _) => unreachable!("a well-formed FREE carries an agent"),
         }
     }
@@ -184,6 +185,7 @@ impl LockState {
                 packet.address = Address::Machine(owner.machine);
                 self.wire.push(packet);
             }
+            Action::Postpone => self.wire.push(packet),
             _ => unreachable!("the action belongs to a machine"),
         }
     }
@@ -247,13 +249,13 @@ impl LockState {
     fn apply_at_machine(&mut self, action: Action, packet: Packet) {
         let client = packet.message.client();
         match (action, packet.message, client) {
-            (Action::SendBackWithoutAgent | Action::SendBackUnlisted, ..) => self.send_back(packet),
+            (Action::SendBackWithoutAgent | Action::SendBackUnknown, ..) => self.send_back(packet),
             (Action::RestoreAgent(machine), ..) => self.restore_agent(machine, packet),
             (Action::ShowGrant, Message::Grant { client, mode }, _) => {
-                self.clients[client.index()] = ClientStatus::Holding(mode);
+                self.show_grant(client, mode);
             }
             (Action::InstallAgent(machine), Message::Grant { client, mode }, _) => {
-                self.clients[client.index()] = ClientStatus::Holding(mode);
+                self.show_grant(client, mode);
                 self.install_agent(machine, client, mode, packet.agent);
             }
             (Action::ConfirmHolder(machine), _, Some(client)) => {
@@ -270,7 +272,20 @@ impl LockState {
                 queue.push_back(Waiter { client, mode });
             }
             (Action::RemoveHolder(machine), _, Some(client)) => self.remove_holder(machine, client),
+            (Action::RemoveWaiter(machine), _, Some(client)) => {
+                let queue = &mut self.agent_mut(machine).queue;
+                queue.retain(|waiter| waiter.client != client);
+            }
             _ => unreachable!("the action does not belong to the packet"),
+        }
+    }
+
+    /// Who gave up does not wait for the grant any more, and stays idle.
+    fn show_grant(&mut self, client: ClientId, mode: Mode) {
+        let status = &mut self.clients[client.index()];
+        if *status != ClientStatus::Idle {
+            *status = ClientStatus::Holding(mode);
+            self.lost_grants.remove(client);
         }
     }
 
@@ -334,10 +349,7 @@ impl Decider {
         }
         let unmarked_mode = packet.message.unmarked_mode();
         let Some(owner) = self.owner else {
-            // A free lock has no agent, so only a new request makes sense here
-            // (document 01, 'Zero and the refusals').
-            let created = unmarked_mode.map(|_| Action::CreateAgent);
-            return created.ok_or(Refusal::CannotBePlaced);
+            return free_decider_action(packet);
         };
         let Some(agent) = &packet.agent else {
             let both_shared = owner.mode == Mode::Shared && unmarked_mode == Some(Mode::Shared);
@@ -384,11 +396,32 @@ impl Packet {
 }
 
 impl Agent {
+    /// What becomes of the RELEASE of a client at the agent on this machine; who is a holder leaves as one.
+    fn release_action(&self, machine: MachineId, client: ClientId) -> Action {
+        if self.holders.contains(client) {
+            Action::RemoveHolder(machine)
+        } else if self.place_in_queue(client).is_some() {
+            Action::RemoveWaiter(machine)
+        } else {
+            Action::SendBackUnknown
+        }
+    }
+
     /// How many shared waiters stand ahead of the first exclusive one.
     fn readers_in_front(&self) -> usize {
         let mut queue = self.queue.iter();
         let writer = queue.position(|waiter| waiter.mode == Mode::Exclusive);
         writer.unwrap_or(self.queue.len())
+    }
+}
+
+/// A free lock has no agent, so nothing else makes sense here (document 01, 'Zero and the refusals').
+fn free_decider_action(packet: &Packet) -> Result<Action, Refusal> {
+    match packet.message {
+        Message::Acquire { granted: false, .. } => Ok(Action::CreateAgent),
+        // It may have overtaken the request that it undoes (document 02, §8).
+        Message::Release { .. } => Ok(Action::Postpone),
+        _ => Err(Refusal::CannotBePlaced),
     }
 }
 

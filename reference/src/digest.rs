@@ -48,12 +48,14 @@ impl Digest {
         for agent in &lock.agents {
             self.optional_agent(agent.as_ref());
         }
-        for status in &lock.clients {
+        for (number, status) in (0..).zip(&lock.clients) {
             self.byte(match status {
                 ClientStatus::Idle => 0,
                 ClientStatus::Waiting(mode) => mode.number(),
                 ClientStatus::Holding(mode) => 4 + mode.number(),
             });
+            let lost = lock.lost_grants.contains(ClientId(number));
+            self.byte(u8::from(lost));
         }
         self.byte(lock.wire.len() as u8);
         // A length above the capacity has no packets beyond the capacity.

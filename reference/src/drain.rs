@@ -1,15 +1,15 @@
-//! The drain of one lock (document 01, 'Draining a lock'; document 02, §4).
+//! The drain of one lock (document 01, 'Draining a lock'; document 02, §4 and §8).
 
 use crate::answer::{without_handling, Handling, Refusal, StepOutcome};
-use crate::model::{ClientId, ClientStatus, Cluster, LockId, LockState, Preference, CLIENTS};
+use crate::model::{ClientId, Cluster, LockId, LockState, Preference};
 
-/// A drain that needs more steps is refused with 14 (document 01, 'Zero and
-/// the refusals').
-pub const DRAIN_LIMIT: u16 = 16_384;
+/// A drain that needs more steps is refused with 14 (document 02, §8).
+pub const DRAIN_LIMIT: u16 = 32_768;
 
 enum DrainStep {
     DeliverOldest,
     Release(ClientId),
+    GiveUp(ClientId),
 }
 
 /// What an accepted drain gives; the default is what a refused one has.
@@ -44,7 +44,7 @@ impl Cluster {
 }
 
 impl LockState {
-    /// Whether nothing is in flight and no client holds the lock.
+    /// Whether nothing is in flight, no client holds the lock and none waits for a GRANT that was lost.
     pub fn is_quiescent(&self) -> bool {
         self.next_drain_step().is_none()
     }
@@ -67,21 +67,24 @@ impl LockState {
         Ok(drained)
     }
 
-    /// Packets before holders, the oldest packet and the lowest holder first;
-    /// none once the lock is quiescent.
+    /// Packets before holders, and these before clients whose GRANT was lost; the oldest packet and the lowest client first; none
+    /// once the lock is quiescent.
     fn next_drain_step(&self) -> Option<DrainStep> {
         if !self.wire.is_empty() {
             return Some(DrainStep::DeliverOldest);
         }
-        let holding = |&c: &usize| matches!(self.clients[c], ClientStatus::Holding(_));
-        let lowest = (0..CLIENTS).find(holding)?;
-        Some(DrainStep::Release(ClientId(lowest as u8)))
+        let holder = self.holding_clients().lowest();
+        holder.map(DrainStep::Release).or_else(|| {
+            let loser = self.lost_grants.lowest();
+            loser.map(DrainStep::GiveUp)
+        })
     }
 
     fn perform(&mut self, step: DrainStep, preference: Preference) -> StepOutcome {
         match step {
             DrainStep::DeliverOldest => self.deliver(0, preference),
             DrainStep::Release(client) => without_handling(self.release(client)),
+            DrainStep::GiveUp(client) => without_handling(self.give_up(client)),
         }
     }
 }

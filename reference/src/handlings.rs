@@ -1,4 +1,4 @@
-//! What holds of the handling that a step, a drain or a transcript gives (document 02, §4).
+//! What holds of the handling that a step, a drain or a transcript gives (document 02, §4 and §8).
 //!
 //! It is read from the packet as it was delivered and from the states before and after, so that a fault in the
 //! rule shows. Hand-made states keep to it too.
@@ -47,9 +47,18 @@ impl Arrival {
             }
             Handling::Taken => {
                 self.check_taker()?;
-                self.check_nothing_sent_on(after)
+                match self.is_of_queued() {
+                    true => self.check_taken_off_queue(after),
+                    false => self.check_nothing_sent_on(after),
+                }
             }
         }
+    }
+
+    /// Whether it is the RELEASE of a client that the agent has in its queue, and does not list.
+    pub fn is_of_queued(&self) -> bool {
+        matches!((self.agent(), self.released()), (Some(agent), Some(client))
+            if !agent.holders.contains(client) && has_in_queue(agent, client))
     }
 
     fn check_no_agent(&self) -> Result<(), String> {
@@ -58,7 +67,7 @@ impl Arrival {
         })
     }
 
-    /// There is an agent, and it does not list the client of the RELEASE.
+    /// There is an agent, and it neither lists the client of the RELEASE nor has it in its queue.
     fn check_not_holder(&self) -> Result<(), String> {
         let machine = self.machine.0;
         let words = match (self.agent(), self.released()) {
@@ -67,18 +76,24 @@ impl Arrival {
             (Some(agent), Some(client)) if agent.holders.contains(client) => {
                 format!("client {} is listed on machine {machine}", client.0)
             }
+            (Some(agent), Some(client)) if has_in_queue(agent, client) => {
+                format!("client {} is queued on machine {machine}", client.0)
+            }
             _ => return Ok(()),
         };
         Err(format!("not a holder, but {words}"))
     }
 
-    /// There is an agent, and it lists the client of a RELEASE.
+    /// There is an agent, and it lists the client of a RELEASE or has it in its queue.
     fn check_taker(&self) -> Result<(), String> {
         let machine = self.machine.0;
         let words = match (self.agent(), self.released()) {
             (None, _) => format!("there is no agent on machine {machine}"),
-            (Some(agent), Some(client)) if !agent.holders.contains(client) => {
-                format!("client {} is not listed on machine {machine}", client.0)
+            (Some(agent), Some(client))
+                if !agent.holders.contains(client) && !has_in_queue(agent, client) =>
+            {
+                let client = client.0;
+                format!("client {client} is neither listed nor queued on machine {machine}")
             }
             _ => return Ok(()),
         };
@@ -95,6 +110,18 @@ impl Arrival {
         expected.wire.push(packet);
         check(*after == expected, || {
             String::from("the step did more, or less, than send the packet back")
+        })
+    }
+
+    /// The packet and the client's place in the queue are gone, and all else is as before.
+    fn check_taken_off_queue(&self, after: &LockState) -> Result<(), String> {
+        let mut expected = self.before.clone();
+        let released = expected.wire.remove(self.index).message.client();
+        if let Some(agent) = &mut expected.agents[self.machine.index()] {
+            agent.queue.retain(|waiter| Some(waiter.client) != released);
+        }
+        check(*after == expected, || {
+            String::from("the step did more, or less, than take the client off the queue")
         })
     }
 
@@ -164,6 +191,10 @@ pub fn check_step(
             format!("{}, of a step that has no handling", name_of(handling))
         }),
     }
+}
+
+fn has_in_queue(agent: &Agent, client: ClientId) -> bool {
+    agent.queue.iter().any(|waiter| waiter.client == client)
 }
 
 pub(crate) fn is_request_or_release(packet: &Packet) -> bool {

@@ -5,8 +5,8 @@ use crate::answer::{answer_number, Handling, Refusal, StepOutcome};
 use crate::counts::Counts;
 use crate::drain::Drained;
 use crate::model::{
-    Address, Agent, ClientId, ClientStatus, Cluster, Decider, LockId, LockState, Message, Mode,
-    Packet, Waiter, CLIENTS, LOCKS,
+    Address, Agent, ClientId, ClientStatus, Cluster, Decider, LockId, LockState, MachineId,
+    Message, Mode, Packet, TaskId, Waiter, CLIENTS, LOCKS,
 };
 use crate::reasons::Reason;
 use crate::transcript::{Record, TranscriptOutcome};
@@ -141,23 +141,34 @@ impl fmt::Display for Json<'_, Record> {
     fn fmt(&self, f: &mut fmt::Formatter) -> fmt::Result {
         match *self.0 {
             Record::Acquire(lock, machine, task, mode) => {
-                let (lock, machine, task) = (lock.0, machine.0, task.0);
-                write!(f, r#""kind":"acquire","lock":{lock},"machine":{machine},"#)?;
-                write!(f, r#""task":{task},"mode":{mode}"#)
+                client_fields(f, "acquire", lock, machine, task)?;
+                write!(f, r#","mode":{mode}"#)
             }
             Record::Release(lock, machine, task) => {
-                let (lock, machine, task) = (lock.0, machine.0, task.0);
-                write!(
-                    f,
-                    r#""kind":"release","lock":{lock},"machine":{machine},"task":{task}"#
-                )
+                client_fields(f, "release", lock, machine, task)
             }
-            Record::Deliver(lock, index) => {
-                let lock = lock.0;
-                write!(f, r#""kind":"deliver","lock":{lock},"index":{index}"#)
-            }
+            Record::GiveUp(lock, machine, task) => client_fields(f, "give up", lock, machine, task),
+            Record::Deliver(lock, index) => index_fields(f, "deliver", lock, index),
+            Record::Lose(lock, index) => index_fields(f, "lose", lock, index),
         }
     }
+}
+
+fn client_fields(
+    f: &mut fmt::Formatter,
+    kind: &str,
+    lock: LockId,
+    machine: MachineId,
+    task: TaskId,
+) -> fmt::Result {
+    let (lock, machine, task) = (lock.0, machine.0, task.0);
+    write!(f, r#""kind":"{kind}","lock":{lock},"#)?;
+    write!(f, r#""machine":{machine},"task":{task}"#)
+}
+
+fn index_fields(f: &mut fmt::Formatter, kind: &str, lock: LockId, index: u8) -> fmt::Result {
+    let lock = lock.0;
+    write!(f, r#""kind":"{kind}","lock":{lock},"index":{index}"#)
 }
 
 impl fmt::Display for Json<'_, Handling> {
@@ -236,12 +247,11 @@ impl fmt::Display for ClientOf<'_> {
             ClientStatus::Holding(mode) => ("holding", Some(mode)),
         };
         let mode = OrNull(mode.map(Mode::number));
+        let lost = state.lost_grants.contains(client);
         let reason = state.reason(client).ok();
         let reason = OrNull(reason.as_ref().map(Json));
-        write!(
-            f,
-            r#"{{"status":"{status}","mode":{mode},"reason":{reason}}}"#
-        )
+        write!(f, r#"{{"status":"{status}","mode":{mode},"#)?;
+        write!(f, r#""lost":{lost},"reason":{reason}}}"#)
     }
 }
 
@@ -253,6 +263,7 @@ impl fmt::Display for Json<'_, Reason> {
             Reason::RejectedGrant { index } => ("rejected GRANT", Some(index), None, None),
             Reason::MachineQueue { machine, ahead } => ("queue", None, Some(machine), Some(ahead)),
             Reason::PacketQueue { index, ahead } => ("queue", Some(index), None, Some(ahead)),
+            Reason::GrantLost => ("grant lost", None, None, None),
         };
         let machine = OrNull(machine.map(|machine| machine.0));
         let (index, ahead) = (OrNull(index), OrNull(ahead));

@@ -1,9 +1,9 @@
 //! A reference program for the lock fission protocol as document 01 fixes it.
 //!
 //! A cluster has eight locks on four machines with four tasks each. Its calls
-//! are `acquire`, `release`, `deliver`, `drain` and `run_transcript`; a refused
-//! call leaves the cluster exactly as it was. `reason` only reads it, and
-//! `fresh` makes it.
+//! are `acquire`, `release`, `deliver`, `lose`, `give_up`, `drain` and
+//! `run_transcript`; a refused call leaves the cluster exactly as it was.
+//! `reason` only reads it, and `fresh` makes it.
 
 pub mod answer;
 pub mod circled;
@@ -11,7 +11,9 @@ pub mod counts;
 mod delivery;
 pub mod digest;
 mod drain;
+pub mod drain_test;
 pub mod generator;
+pub mod giving_up;
 pub mod handlings;
 pub mod inspect;
 pub mod installations;
@@ -26,6 +28,7 @@ pub mod report;
 mod requests;
 pub mod still_named;
 pub mod transcript;
+pub mod waits;
 mod well_formed;
 
 pub use answer::{answer_number, Handling, Outcome, Refusal, StepOutcome};

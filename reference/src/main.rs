@@ -136,7 +136,7 @@ fn bytes(make: fn(u64) -> Vec<u8>, seed: &str, out: &mut dyn Write) -> io::Resul
     out.write_all(&make(parse_seed(seed)?))
 }
 
-/// How often each kind of call met each answer, from 0 to 16, and what the tests met.
+/// How often each kind of call met each answer, from 0 to 18, and what the tests met.
 fn counts(out: &mut dyn Write) -> io::Result<()> {
     // With the calls of each part that may have a handling.
     let parts = [
@@ -191,5 +191,7 @@ fn tested_lines(
     }
     writeln!(out, "{name} {}", tally.behind_writer_line())?;
     writeln!(out, "{name} {}", tally.still_named_line())?;
-    writeln!(out, "{name} {}", tally.circled_line())
+    writeln!(out, "{name} {}", tally.circled_line())?;
+    writeln!(out, "{name} {}", tally.giving_up.line())?;
+    writeln!(out, "{name} {}", tally.drained_waits_line())
 }

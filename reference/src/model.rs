@@ -1,6 +1,6 @@
 //! The state of the cluster: locks, machines, tasks and packets in flight
-//! (document 01, 'What stands on the bench'), its preference and the counts of
-//! packets (document 02, §5 and §7).
+//! (document 01, 'What stands on the bench'), its preference, the counts of
+//! packets and the notes of lost GRANTs (document 02, §5, §7 and §8).
 //!
 //! The types can also hold states outside the bounds of document 01, so that
 //! hand-made malformed states can be represented and refused.
@@ -13,7 +13,8 @@ pub const MACHINES: usize = 4;
 pub const TASKS_PER_MACHINE: usize = 4;
 pub const CLIENTS: usize = MACHINES * TASKS_PER_MACHINE;
 pub const QUEUE_CAPACITY: usize = 16;
-pub const WIRE_CAPACITY: usize = 33;
+/// Three packets of each client and one FREE (document 02, §8).
+pub const WIRE_CAPACITY: usize = 49;
 
 #[derive(Clone, Copy, Debug, PartialEq, Eq)]
 pub struct LockId(pub u8);
@@ -135,6 +136,17 @@ impl ClientSet {
         self.0 == 0
     }
 
+    /// Whether every client of this set is in the other one too.
+    pub fn is_within(self, other: ClientSet) -> bool {
+        self.0 & !other.0 == 0
+    }
+
+    /// The client with the lowest number.
+    pub fn lowest(self) -> Option<ClientId> {
+        let lowest = self.0.trailing_zeros();
+        (!self.is_empty()).then_some(ClientId(lowest as u8))
+    }
+
     /// Whether the set would be empty without this client.
     pub fn is_only(self, client: ClientId) -> bool {
         self.0 == 1 << client.0
@@ -178,10 +190,15 @@ impl Agent {
             .any(|waiter| waiter.mode == Mode::Exclusive)
     }
 
+    /// Where a client stands in the queue, if it does: so many are ahead of it.
+    pub(crate) fn place_in_queue(&self, client: ClientId) -> Option<usize> {
+        self.queue.iter().position(|waiter| waiter.client == client)
+    }
+
     /// Whether the queue has room and does not have the client yet; otherwise a
     /// step is refused with 9 (document 01, 'Zero and the refusals').
     pub fn can_enqueue(&self, client: ClientId) -> bool {
-        self.queue.len() < QUEUE_CAPACITY && self.queue.iter().all(|w| w.client != client)
+        self.queue.len() < QUEUE_CAPACITY && self.place_in_queue(client).is_none()
     }
 }
 
@@ -266,6 +283,12 @@ impl Packet {
         }
     }
 
+    /// Whether `lose` may take the packet off the wire: a GRANT without agent on its last way, to a machine.
+    pub fn can_be_lost(&self) -> bool {
+        let is_plain_grant = matches!(self.message, Message::Grant { .. }) && self.agent.is_none();
+        is_plain_grant && self.address != Address::Decider
+    }
+
     /// A packet that is not rejected, has not circled and carries an agent.
     pub fn with_agent(message: Message, address: Address, agent: Agent) -> Self {
         Packet {
@@ -281,6 +304,8 @@ pub struct LockState {
     pub decider: Decider,
     pub agents: [Option<Agent>; MACHINES],
     pub clients: [ClientStatus; CLIENTS],
+    /// The waiting clients whose GRANT was lost; hand-made states may note others.
+    pub lost_grants: ClientSet,
     /// Packets in flight, oldest first.
     pub wire: Vec<Packet>,
     /// Stands for an unused slot that is not blank in a fixed-slot layout.
@@ -293,6 +318,28 @@ pub struct Cluster {
     /// The number of a preference; hand-made clusters may have any.
     pub preference: u8,
     pub locks: [LockState; LOCKS],
+}
+
+impl LockState {
+    /// The clients that wait.
+    pub(crate) fn waiting_clients(&self) -> ClientSet {
+        self.clients_with(|status| matches!(status, ClientStatus::Waiting(_)))
+    }
+
+    /// The clients that hold the lock by their status.
+    pub(crate) fn holding_clients(&self) -> ClientSet {
+        self.clients_with(|status| matches!(status, ClientStatus::Holding(_)))
+    }
+
+    fn clients_with(&self, wanted: fn(ClientStatus) -> bool) -> ClientSet {
+        let mut found = ClientSet::default();
+        for (number, &status) in (0..).zip(&self.clients) {
+            if wanted(status) {
+                found.insert(ClientId(number));
+            }
+        }
+        found
+    }
 }
 
 impl Cluster {

@@ -1,12 +1,13 @@
 //! How a step of a random run chooses its call (docs/random-runs.md).
 
-use crate::answer::{without_handling, Refusal, StepOutcome};
+use crate::answer::{Refusal, StepOutcome};
 use crate::model::{
     Address, ClientId, ClientStatus, Cluster, LockId, LockState, MachineId, Message, Mode, Packet,
-    TaskId, LOCKS,
+    TaskId, LOCKS, WIRE_CAPACITY,
 };
 use crate::reasons::Reason;
 use crate::report::Incoming;
+use crate::transcript::Record;
 use std::fmt;
 
 /// No step chooses this kind; it stands for a whole transcript.
@@ -17,13 +18,18 @@ pub const DELIVER: u8 = 3;
 pub const DRAIN: u8 = 4;
 /// No step chooses this kind; one such ask follows each call.
 pub const REASON: u8 = 5;
+pub const LOSE: u8 = 6;
+pub const GIVE_UP: u8 = 7;
 /// No step chooses this kind; all such calls come before the runs.
-pub const FRESH: u8 = 6;
+pub const FRESH: u8 = 8;
+
+/// Which kind a wild call has.
+const WILD_KINDS: [u8; 5] = [ACQUIRE, RELEASE, DELIVER, LOSE, GIVE_UP];
 
 /// From this number on, out of 64, a client acquires whatever its status is.
 const BOLD: u64 = 62;
 
-/// The weights of a run; `shared`, `deliver` and `wild` are out of 64.
+/// The weights of a run; `shared`, `deliver`, `wild`, `gives_up` and `loses` are out of 64.
 #[derive(Clone, Copy, Debug)]
 pub struct Profile {
     pub steps: u64,
@@ -34,7 +40,10 @@ pub struct Profile {
     pub delay_granted: bool,
     pub delay_agents: bool,
     pub delay_requests: bool,
+    pub delay_plain_grants: bool,
     pub pin_client_0: bool,
+    pub gives_up: u64,
+    pub loses: u64,
 }
 
 const BASE: Profile = Profile {
@@ -46,7 +55,10 @@ const BASE: Profile = Profile {
     delay_granted: false,
     delay_agents: false,
     delay_requests: false,
+    delay_plain_grants: false,
     pin_client_0: false,
+    gives_up: 0,
+    loses: 0,
 };
 
 const CONTENTION: Profile = Profile {
@@ -75,6 +87,8 @@ const LONG_WIRES: Profile = Profile {
 const UNIFORM: Profile = Profile {
     locks: 8,
     deliver: 24,
+    gives_up: 4,
+    loses: 8,
     ..BASE
 };
 const WILD: Profile = Profile {
@@ -100,7 +114,22 @@ const LATE_WRITERS: Profile = Profile {
     ..BASE
 };
 
-const PROFILES: [Profile; 9] = [
+const LOST_GRANTS: Profile = Profile {
+    shared: 40,
+    deliver: 28,
+    gives_up: 8,
+    loses: 16,
+    ..BASE
+};
+/// Who gives up before its GRANT comes has three packets.
+const LONGEST_WIRES: Profile = Profile {
+    delay_plain_grants: true,
+    gives_up: 48,
+    loses: 1,
+    ..LONG_WIRES
+};
+
+const PROFILES: [Profile; 11] = [
     CONTENTION,
     STARVED_READERS,
     DELAYED_AGENTS,
@@ -110,6 +139,8 @@ const PROFILES: [Profile; 9] = [
     PINNED_READER,
     LATE_REQUESTS,
     LATE_WRITERS,
+    LOST_GRANTS,
+    LONGEST_WIRES,
 ];
 
 /// The profile of the calls on a hand-made state.
@@ -117,6 +148,8 @@ pub const HAND_MADE: Profile = Profile {
     steps: 16,
     locks: 2,
     wild: 2,
+    gives_up: 8,
+    loses: 16,
     ..BASE
 };
 
@@ -149,34 +182,51 @@ impl Profile {
         } else {
             Mode::Exclusive
         };
+        let kind = self.choose_kind(outputs, state, ClientId::new(machine, task));
         Call {
-            kind: self.choose_kind(outputs[2] % 64, state, ClientId::new(machine, task)),
+            kind,
             lock: LockId(lock as u8),
             machine,
             task,
             mode: mode.number(),
-            index: self.choose_index(outputs, state),
+            index: self.choose_index(kind, outputs, state),
         }
     }
 
-    /// A client mostly does what its status allows, or a packet is delivered.
-    fn choose_kind(&self, number: u64, state: &LockState, client: ClientId) -> u8 {
+    /// A client mostly does what its status allows, or a packet is delivered or lost.
+    fn choose_kind(&self, outputs: &[u64; 8], state: &LockState, client: ClientId) -> u8 {
+        let (number, other) = (outputs[2] % 64, outputs[0] / 64 % 64);
         let stays = self.pin_client_0 && client == ClientId(0);
         match state.clients[client.index()] {
-            _ if number < self.deliver => DELIVER,
+            // Gives up and losses are at the two ends of one number, so that each has its own share.
+            _ if number < self.deliver => self.deliver_or_lose(other),
             _ if number >= BOLD => ACQUIRE,
             ClientStatus::Idle => ACQUIRE,
             ClientStatus::Holding(_) if !stays => RELEASE,
-            _ => DELIVER,
+            ClientStatus::Waiting(_) if other < self.gives_up => GIVE_UP,
+            _ => self.deliver_or_lose(other),
         }
     }
 
-    /// An index up to the wire's length, mostly past the delayed packets.
-    fn choose_index(&self, outputs: &[u64; 8], state: &LockState) -> u8 {
-        let length = state.wire.len() as u64;
-        let mut index = outputs[7] % (length + 1);
+    fn deliver_or_lose(&self, number: u64) -> u8 {
+        match 63 - number < self.loses {
+            true => LOSE,
+            false => DELIVER,
+        }
+    }
+
+    /// An index up to the wire's length, mostly past the packets that are not wanted.
+    fn choose_index(&self, kind: u8, outputs: &[u64; 8], state: &LockState) -> u8 {
+        let length = state.wire.len();
+        let mut index = (outputs[7] % (length as u64 + 1)) as usize;
         let hurries = (outputs[1] / 64).is_multiple_of(8);
-        while !hurries && index < length && self.delays(&state.wire[index as usize]) {
+        let passes = |packet: &Packet| match kind {
+            LOSE => !packet.can_be_lost(),
+            _ => self.delays(packet),
+        };
+        // A hand-made wire that claims more has no packets beyond the capacity.
+        let slots = length.min(WIRE_CAPACITY);
+        while !hurries && index < slots && passes(&state.wire[index]) {
             index += 1;
         }
         index as u8
@@ -187,6 +237,7 @@ impl Profile {
         match packet.message {
             Message::Acquire { granted: true, .. } => self.delay_granted,
             Message::Acquire { .. } => self.delay_requests && to_machine,
+            Message::Grant { .. } if packet.agent.is_none() => self.delay_plain_grants,
             _ => self.delay_agents && packet.agent.is_some(),
         }
     }
@@ -195,33 +246,35 @@ impl Profile {
 /// A call that does not look at the cluster and may be out of every range.
 fn wild_call(outputs: &[u64; 8]) -> Call {
     Call {
-        kind: 1 + (outputs[2] % 3) as u8,
+        kind: WILD_KINDS[(outputs[2] % 5) as usize],
         lock: LockId((outputs[3] % 10) as u8),
         machine: MachineId((outputs[4] % 6) as u8),
         task: TaskId((outputs[5] % 6) as u8),
         mode: (outputs[6] % 6) as u8,
-        index: (outputs[7] % 41) as u8,
+        index: (outputs[7] % 57) as u8,
     }
 }
 
 impl Call {
-    pub fn perform(&self, cluster: &mut Cluster) -> StepOutcome {
+    /// The call as a record, with the arguments that its kind has.
+    pub fn record(&self) -> Record {
         let (lock, machine, task) = (self.lock, self.machine, self.task);
         match self.kind {
-            ACQUIRE => without_handling(cluster.acquire(lock, machine, task, self.mode)),
-            RELEASE => without_handling(cluster.release(lock, machine, task)),
-            _ => cluster.deliver(lock, self.index),
+            ACQUIRE => Record::Acquire(lock, machine, task, self.mode),
+            RELEASE => Record::Release(lock, machine, task),
+            LOSE => Record::Lose(lock, self.index),
+            GIVE_UP => Record::GiveUp(lock, machine, task),
+            _ => Record::Deliver(lock, self.index),
         }
     }
 
-    /// What the call is to bring a machine, where it is a delivery, or to ask of it.
+    pub fn perform(&self, cluster: &mut Cluster) -> StepOutcome {
+        self.record().run(cluster)
+    }
+
+    /// What the tests of the call need of the cluster before it.
     pub fn incoming(&self, cluster: &Cluster) -> Incoming {
-        let (lock, machine, task) = (self.lock, self.machine, self.task);
-        match self.kind {
-            ACQUIRE => Incoming::of_acquire(cluster, lock, machine, task, self.mode),
-            RELEASE => Incoming::of_release(cluster, lock),
-            _ => Incoming::of_delivery(cluster, lock, self.index),
-        }
+        Incoming::of(cluster, &self.record())
     }
 
     /// Why the chosen client waits, also where the call itself has no client.
@@ -236,7 +289,7 @@ impl Call {
             return vec![];
         };
         match state.first_naming(client) {
-            // A wire has 33 packets at most, by hand too.
+            // A wire has 49 packets at most, by hand too.
             Some(index) => vec![1, index as u8],
             None => vec![0],
         }

@@ -1,19 +1,19 @@
 //! Random runs of calls and drains (docs/random-runs.md).
 
 use crate::answer::{answer_number, Handling, Refusal, StepOutcome};
-use crate::circled::{Origin, TrueNumbers};
+use crate::circled::Origin;
 use crate::digest::Digest;
 use crate::drain::Drained;
+use crate::drain_test::{Book, DrainTest};
 use crate::generator::Generator;
-use crate::handlings::StepHandlings;
-use crate::model::{ClientId, Cluster, LockId, LockState, LOCKS};
+use crate::model::{ClientId, Cluster, LockId, LOCKS};
 use crate::random_calls::{Call, Profile, DRAIN, FRESH, REASON};
 use crate::reasons::reason_numbers;
-use crate::report::{Incoming, Observation, Report, Tally};
+use crate::report::{Observation, Report};
 use std::io;
 
 pub const FIRST_RUN: u64 = 1;
-pub const LAST_RUN: u64 = 1_350;
+pub const LAST_RUN: u64 = 1_430;
 /// A digest line stands after every so many steps.
 const LINE_STEPS: u64 = 512;
 /// The whole cluster enters the digest after every so many steps.
@@ -28,8 +28,7 @@ pub struct Run {
     profile: Profile,
     generator: Generator,
     cluster: Cluster,
-    /// How often the packets of each lock were sent back.
-    numbers: [TrueNumbers; LOCKS],
+    books: [Book; LOCKS],
     digest: Digest,
     step: u64,
     accepted: u64,
@@ -81,7 +80,7 @@ pub fn random_run(seed: u64, report: &mut Report) -> io::Result<()> {
     let profile = Profile::of_seed(seed);
     let generator = Generator::new(seed);
     // Each profile has both preferences in turn.
-    let (_, cluster) = Cluster::fresh((seed / 9 % 2) as u8);
+    let (_, cluster) = Cluster::fresh((seed / 11 % 2) as u8);
     let run = Run::new("run", seed, profile, generator, cluster);
     run.tested().finish(report)
 }
@@ -96,14 +95,14 @@ impl Run {
     ) -> Self {
         let mut digest = Digest::new(seed);
         digest.cluster(&cluster);
-        let numbers = cluster.locks.each_ref().map(TrueNumbers::of);
+        let books = cluster.locks.each_ref().map(Book::of);
         Run {
             label,
             seed,
             profile,
             generator,
             cluster,
-            numbers,
+            books,
             digest,
             step: 0,
             accepted: 0,
@@ -159,7 +158,11 @@ impl Run {
             self.digest.cluster(&self.cluster);
         }
         self.step_line(call, given, &self.cluster, &asked, report)?;
-        self.test_call(call, &outcome, given.handling, incoming, report)
+        let (origin, lock) = (self.origin(), call.lock.index());
+        let (after, book) = ((&self.cluster, lock), self.books.get_mut(lock));
+        let tally = &mut report.tally;
+        let tested = tally.test_step(call.kind, incoming, &outcome, after, book, origin);
+        self.stop_if_broken(call.lock, tested)
     }
 
     fn digest_given(&mut self, kind: u8, given: Given) {
@@ -191,102 +194,29 @@ impl Run {
     /// A drain on a copy, which the run keeps or forgets by its seed.
     fn drain(&mut self, call: Call, report: &mut Report) -> io::Result<()> {
         let mut drained = self.cluster.clone();
-        let mut numbers = self.numbers.clone();
+        let begun = self.books.get(call.lock.index()).cloned();
+        let begun = begun.unwrap_or_default();
+        let mut test = DrainTest::begin(&self.cluster, call.lock, begun.clone(), self.origin());
         let tally = &mut report.tally;
-        let (given, tested) = self.tested_drain(call, &mut drained, &mut numbers, tally);
+        let outcome = drained.drain_with(call.lock, |number, handling, state| {
+            test.step(number, handling, state, tally);
+        });
+        let tested = test.end(&outcome, &drained, begun, tally);
+        let given = Given::of_drain(outcome);
         report.tally.count(call.kind, given.answer);
         report.tally.count_drain(given.count);
         self.digest_given(call.kind, given);
         self.digest.bytes(&given.count.to_le_bytes());
         self.digest.cluster(&drained);
         self.step_line(call, given, &drained, &[], report)?;
-        self.stop_if_broken(call.lock, tested)?;
+        let book = self.stop_if_broken(call.lock, tested)?;
         if self.seed / 16 % 2 == 1 {
             self.cluster = drained;
-            self.numbers = numbers;
-        }
-        Ok(())
-    }
-
-    /// Drains a lock of the copy, and tests each step and what the drain gives.
-    fn tested_drain(
-        &self,
-        call: Call,
-        drained: &mut Cluster,
-        numbers: &mut [TrueNumbers; LOCKS],
-        tally: &mut Tally,
-    ) -> (Given, Result<(), String>) {
-        let mut tested = Ok(());
-        let mut steps = StepHandlings::default();
-        // Of the packets a drain delivers only the oldest (document 01, 'Draining a lock').
-        let mut next = Incoming::of_delivery(drained, call.lock, 0);
-        let preference = drained.preference;
-        let outcome = drained.drain_with(call.lock, |number, handling, state| {
-            let incoming = std::mem::replace(&mut next, Incoming::at(state, 0, preference));
-            // A drain cannot be stopped from here; after a failure it goes on untested.
-            if tested.is_ok() {
-                let numbers = numbers.get_mut(call.lock.index());
-                let result =
-                    self.test_drain_step(incoming, handling, state, &mut steps, numbers, tally);
-                tested = result.map_err(|broken| format!("drain step {number}: {broken}"));
+            if let Some(kept) = self.books.get_mut(call.lock.index()) {
+                *kept = book;
             }
-        });
-        let given = Given::of_drain(outcome);
-        if outcome.is_err() {
-            // As if the steps had not been.
-            steps = StepHandlings::default();
-            numbers.clone_from(&self.numbers);
-        }
-        tested = tested.and_then(|()| tally.test_last_handling(call.kind, &steps, given.handling));
-        if self.is_tested {
-            // The last step has tested the state already.
-            tested = tested.and_then(|()| tally.test_call(call.kind, &outcome, None, preference));
-        }
-        (given, tested)
-    }
-
-    fn test_drain_step(
-        &self,
-        incoming: Incoming,
-        handling: Handling,
-        state: &LockState,
-        steps: &mut StepHandlings,
-        numbers: Option<&mut TrueNumbers>,
-        tally: &mut Tally,
-    ) -> Result<(), String> {
-        tally.test_installation(incoming.installation, Some(state))?;
-        steps.test_step(incoming.arrival.as_ref(), handling, state)?;
-        tally.test_behind_writer(incoming.behind_writer, Some(state))?;
-        tally.test_circled(numbers, incoming.wire, Some(state), self.origin())?;
-        if self.is_tested {
-            tally.test_state(state, self.cluster.preference)?;
         }
         Ok(())
-    }
-
-    fn test_call(
-        &mut self,
-        call: Call,
-        outcome: &StepOutcome,
-        handling: Handling,
-        incoming: Incoming,
-        report: &mut Report,
-    ) -> io::Result<()> {
-        let (origin, lock) = (self.origin(), call.lock.index());
-        let (state, numbers) = (self.cluster.locks.get(lock), self.numbers.get_mut(lock));
-        let tally = &mut report.tally;
-        let incoming = incoming.if_accepted(outcome);
-        let mut tested = tally.test_installation(incoming.installation, state);
-        tested = tested
-            .and_then(|()| tally.test_handling(call.kind, incoming.arrival, handling, state))
-            .and_then(|()| tally.test_behind_writer(incoming.behind_writer, state))
-            .and_then(|()| tally.test_still_named(incoming.still_named, outcome))
-            .and_then(|()| tally.test_circled(numbers, incoming.wire, state, origin));
-        if self.is_tested {
-            let preference = self.cluster.preference;
-            tested = tested.and_then(|()| tally.test_call(call.kind, outcome, state, preference));
-        }
-        self.stop_if_broken(call.lock, tested)
     }
 
     /// Only what begins with a fresh cluster is tested in full.
@@ -298,7 +228,7 @@ impl Run {
     }
 
     /// The error ends the program, and its words are the last line.
-    fn stop_if_broken(&self, lock: LockId, tested: Result<(), String>) -> io::Result<()> {
+    fn stop_if_broken<T>(&self, lock: LockId, tested: Result<T, String>) -> io::Result<T> {
         let (label, seed, step, lock) = (self.label, self.seed, self.step, lock.0);
         let line = |broken| format!("{label} {seed} step {step} lock {lock}: {broken}");
         tested.map_err(|broken: String| io::Error::other(line(broken)))

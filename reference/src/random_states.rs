@@ -13,7 +13,7 @@ use std::io;
 pub const FIRST_STATE: u64 = 1;
 pub const LAST_STATE: u64 = 5_000;
 
-const WIRE_LENGTHS: [usize; 16] = [0, 0, 1, 1, 1, 2, 2, 2, 3, 3, 4, 5, 6, 31, 32, 33];
+const WIRE_LENGTHS: [usize; 16] = [0, 0, 1, 1, 1, 2, 2, 2, 3, 3, 4, 5, 6, 47, 48, 49];
 const QUEUE_LENGTHS: [usize; 8] = [0, 0, 0, 1, 2, 3, 15, 16];
 /// How many of sixteen clients hold the lock, about.
 const HOLDER_DENSITIES: [u64; 4] = [0, 1, 4, 12];
@@ -39,10 +39,11 @@ enum Fault {
     PreferenceOutOfRange,
     BitSet,
     CountAboveZero,
+    NoteWithoutWait,
 }
 
 /// The faults by their numbers.
-const FAULTS: [Fault; 16] = [
+const FAULTS: [Fault; 17] = [
     Fault::None,
     Fault::WaiterOutOfRange,
     Fault::WaiterTwice,
@@ -59,6 +60,7 @@ const FAULTS: [Fault; 16] = [
     Fault::PreferenceOutOfRange,
     Fault::BitSet,
     Fault::CountAboveZero,
+    Fault::NoteWithoutWait,
 ];
 
 /// A fault, the number for what is out of range, and the slot that has it:
@@ -112,7 +114,7 @@ pub fn hand_made_cluster(seed: u64, generator: &mut Generator) -> Cluster {
 
 /// A lock of a cluster that without faults has this preference, and the flaw that was drawn for it.
 fn draw_lock(generator: &mut Generator, preference: u8) -> (LockState, Flaw) {
-    let fault = FAULTS[generator.draw(16) as usize];
+    let fault = FAULTS[generator.draw(17) as usize];
     let value = generator.draw(239) as u8;
     let drawn = WIRE_LENGTHS[generator.draw(16) as usize];
     let packets = match fault {
@@ -131,14 +133,14 @@ fn draw_lock(generator: &mut Generator, preference: u8) -> (LockState, Flaw) {
         ..LockState::default()
     };
     draw_agents(generator, flaw, &mut lock);
-    lock.clients = std::array::from_fn(|_| draw_status(generator));
+    draw_clients(generator, flaw, &mut lock);
     for index in 0..packets {
         let packet = draw_packet(generator, flaw.at(MACHINES + index), &mut lock.stale_slot);
         lock.wire.push(packet);
     }
     if fault == Fault::WireTooLong {
         let filler = lock.wire[0].clone();
-        lock.wire.resize(34 + usize::from(value % 222), filler);
+        lock.wire.resize(50 + usize::from(value % 206), filler);
     }
     (lock, flaw)
 }
@@ -181,6 +183,21 @@ fn draw_mode(generator: &mut Generator) -> Mode {
     match generator.draw(2) {
         0 => Mode::Exclusive,
         _ => Mode::Shared,
+    }
+}
+
+/// Some of those who wait have the note that their GRANT was lost.
+fn draw_clients(generator: &mut Generator, flaw: Flaw, lock: &mut LockState) {
+    for number in 0..CLIENTS as u8 {
+        let status = draw_status(generator);
+        let may_be_noted = generator.draw(4) == 0;
+        lock.clients[usize::from(number)] = status;
+        if may_be_noted && matches!(status, ClientStatus::Waiting(_)) {
+            lock.lost_grants.insert(ClientId(number));
+        }
+    }
+    if flaw.fault == Fault::NoteWithoutWait {
+        lock.lost_grants.insert(ClientId(flaw.value % 16));
     }
 }
 

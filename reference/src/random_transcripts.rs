@@ -1,18 +1,19 @@
 //! Random transcripts, some of them damaged (docs/random-runs.md).
 
 use crate::answer::{answer_number, StepOutcome};
-use crate::circled::{Origin, TrueNumbers};
+use crate::circled::Origin;
 use crate::digest::Digest;
+use crate::drain_test::Book;
 use crate::generator::Generator;
 use crate::handlings::StepHandlings;
 use crate::model::{Cluster, LOCKS};
-use crate::random_calls::{Call, Profile, ACQUIRE, RELEASE, TRANSCRIPT};
+use crate::random_calls::{Profile, TRANSCRIPT};
 use crate::report::{Incoming, Report, Tally};
 use crate::transcript::{listing, Record, TRANSCRIPT_LIMIT};
 use std::io;
 
 pub const FIRST_TRANSCRIPT: u64 = 1;
-pub const LAST_TRANSCRIPT: u64 = 240;
+pub const LAST_TRANSCRIPT: u64 = 264;
 
 /// One byte more than a transcript may have.
 const BUFFER: usize = TRANSCRIPT_LIMIT + 1;
@@ -71,8 +72,7 @@ fn count_answers(seed: u64, bytes: &[u8], report: &mut Report) -> io::Result<()>
 struct Past {
     before: Cluster,
     steps: StepHandlings,
-    /// How often the packets of each lock were sent back.
-    numbers: [TrueNumbers; LOCKS],
+    books: [Book; LOCKS],
 }
 
 impl Past {
@@ -84,27 +84,17 @@ impl Past {
         tally: &mut Tally,
     ) -> Result<(), String> {
         let (kind, lock) = (record.kind() as u8, record.lock().index());
-        let (state, numbers) = (cluster.locks.get(lock), self.numbers.get_mut(lock));
-        let handling = outcome.unwrap_or_default();
-        self.steps.push(handling);
-        let incoming = incoming(record, &self.before).if_accepted(outcome);
-        tally.test_installation(incoming.installation, state)?;
-        tally.test_handling(kind, incoming.arrival, handling, state)?;
-        tally.test_behind_writer(incoming.behind_writer, state)?;
-        tally.test_still_named(incoming.still_named, outcome)?;
-        tally.test_circled(numbers, incoming.wire, state, Origin::Fresh)?;
-        tally.test_call(kind, outcome, state, cluster.preference)
-    }
-}
-
-/// What a record is to bring a machine, or to ask of it, on the cluster before it.
-fn incoming(record: &Record, before: &Cluster) -> Incoming {
-    match *record {
-        Record::Acquire(lock, machine, task, mode) => {
-            Incoming::of_acquire(before, lock, machine, task, mode)
-        }
-        Record::Release(lock, ..) => Incoming::of_release(before, lock),
-        Record::Deliver(lock, index) => Incoming::of_delivery(before, lock, index),
+        self.steps.push(outcome.unwrap_or_default());
+        let incoming = Incoming::of(&self.before, record);
+        let book = self.books.get_mut(lock);
+        tally.test_step(
+            kind,
+            incoming,
+            outcome,
+            (cluster, lock),
+            book,
+            Origin::Fresh,
+        )
     }
 }
 
@@ -121,7 +111,7 @@ pub fn transcript_bytes(seed: u64) -> Vec<u8> {
     let mut generator = Generator::new(seed);
     let records = RECORDS[(seed % 8) as usize];
     let damaged = generator.draw(2 * records + 2);
-    let damage = generator.draw(6);
+    let damage = generator.draw(8);
     let cut = generator.draw(16) as usize;
     let profile = Profile::of_seed(seed);
     let mut cluster = Cluster::new();
@@ -129,7 +119,7 @@ pub fn transcript_bytes(seed: u64) -> Vec<u8> {
     for number in 1..=records {
         let call = profile.choose_call(seed, &generator.eight(), &cluster);
         let damage = (number == damaged).then_some(damage);
-        push_record(&call, damage, &mut bytes);
+        push_record(&call.record(), damage, &mut bytes);
         // The cluster moves on only to give the next record likely arguments.
         let _ = call.perform(&mut cluster);
     }
@@ -158,7 +148,7 @@ pub fn long_transcript_bytes(seed: u64) -> Vec<u8> {
             continue;
         }
         let length = bytes.len();
-        push_record(&call, None, &mut bytes);
+        push_record(&call.record(), None, &mut bytes);
         if bytes.len() > TRANSCRIPT_LIMIT {
             bytes.truncate(length);
             break;
@@ -168,24 +158,21 @@ pub fn long_transcript_bytes(seed: u64) -> Vec<u8> {
     bytes
 }
 
-fn push_record(call: &Call, damage: Option<u64>, bytes: &mut Vec<u8>) {
-    let (lock, machine, task) = (call.lock.0, call.machine.0, call.task.0);
-    let values = match call.kind {
-        ACQUIRE | RELEASE => [lock, machine, task, call.mode],
-        _ => [lock, call.index, 0, 0],
-    };
-    let used = usize::from(5 - call.kind);
-    let (length, kind) = (4 + used as u16, u16::from(call.kind));
+fn push_record(record: &Record, damage: Option<u64>, bytes: &mut Vec<u8>) {
+    let arguments = record.arguments();
+    let (length, kind) = (4 + arguments.len() as u16, record.kind());
     let (length, kind) = match damage {
         Some(0) => (length, 0),
         Some(1) => (length, 4),
         Some(2) => (length, kind + 256),
         Some(3) => (length + 1, kind),
         Some(4) => (length - 1, kind),
-        Some(_) => (length + 256, kind),
+        Some(5) => (length + 256, kind),
+        Some(6) => (length, 5),
+        Some(_) => (length, 8),
         None => (length, kind),
     };
     bytes.extend_from_slice(&length.to_le_bytes());
     bytes.extend_from_slice(&kind.to_le_bytes());
-    bytes.extend_from_slice(&values[..used]);
+    bytes.extend_from_slice(&arguments);
 }

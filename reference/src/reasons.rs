@@ -1,4 +1,4 @@
-//! Why a client waits (document 02, §2): the call that names the reason, and what holds of reasons in every run.
+//! Why a client waits (document 02, §2 and §8): the call that names the reason, and what holds of reasons in every run.
 
 use crate::answer::{answer_number, Refusal};
 use crate::model::{
@@ -19,20 +19,23 @@ pub enum Reason {
     MachineQueue { machine: MachineId, ahead: usize },
     /// The queue of the agent inside the packet at this index.
     PacketQueue { index: usize, ahead: usize },
+    /// The note that its GRANT was lost.
+    GrantLost,
 }
 
 /// How many kinds of reasons there are.
-pub const REASON_KINDS: usize = 5;
+pub const REASON_KINDS: usize = 6;
 
 impl Reason {
-    /// The kind from 1 to 5, the index or machine, and for a queue how many are ahead.
-    fn numbers(self) -> (u8, usize, Option<usize>) {
+    /// The kind from 1 to 6, the index or machine, which a lost GRANT has not, and for a queue how many are ahead.
+    fn numbers(self) -> (u8, Option<usize>, Option<usize>) {
         match self {
-            Reason::Request { index } => (1, index, None),
-            Reason::Grant { index } => (2, index, None),
-            Reason::RejectedGrant { index } => (3, index, None),
-            Reason::MachineQueue { machine, ahead } => (4, machine.index(), Some(ahead)),
-            Reason::PacketQueue { index, ahead } => (5, index, Some(ahead)),
+            Reason::Request { index } => (1, Some(index), None),
+            Reason::Grant { index } => (2, Some(index), None),
+            Reason::RejectedGrant { index } => (3, Some(index), None),
+            Reason::MachineQueue { machine, ahead } => (4, Some(machine.index()), Some(ahead)),
+            Reason::PacketQueue { index, ahead } => (5, Some(index), Some(ahead)),
+            Reason::GrantLost => (6, None, None),
         }
     }
 
@@ -48,8 +51,8 @@ pub fn reason_numbers(outcome: &Result<Reason, Refusal>) -> Vec<u8> {
     if let Ok(reason) = outcome {
         let (kind, index, ahead) = reason.numbers();
         numbers.push(kind);
-        // An index of a well-formed cluster is at most 32, and at most 15 are ahead.
-        numbers.extend([Some(index), ahead].into_iter().flatten().map(|n| n as u8));
+        // An index of a well-formed cluster is at most 48, and at most 15 are ahead.
+        numbers.extend([index, ahead].into_iter().flatten().map(|n| n as u8));
     }
     numbers
 }
@@ -96,13 +99,15 @@ impl LockState {
             return Some(Reason::RejectedGrant { index });
         }
         let on_machine = self.first_machine_queue(client);
-        on_machine.or_else(|| self.first_packet_queue(client))
+        let queue = on_machine.or_else(|| self.first_packet_queue(client));
+        let lost = self.lost_grants.contains(client);
+        queue.or_else(|| lost.then_some(Reason::GrantLost))
     }
 
     fn first_machine_queue(&self, client: ClientId) -> Option<Reason> {
         let mut slots = (0..).zip(&self.agents);
         slots.find_map(|(number, slot)| {
-            let ahead = slot.as_ref()?.ahead_of(client)?;
+            let ahead = slot.as_ref()?.place_in_queue(client)?;
             let machine = MachineId(number);
             Some(Reason::MachineQueue { machine, ahead })
         })
@@ -111,7 +116,7 @@ impl LockState {
     fn first_packet_queue(&self, client: ClientId) -> Option<Reason> {
         let mut packets = self.wire.iter().enumerate();
         packets.find_map(|(index, packet)| {
-            let ahead = packet.agent.as_ref()?.ahead_of(client)?;
+            let ahead = packet.agent.as_ref()?.place_in_queue(client)?;
             Some(Reason::PacketQueue { index, ahead })
         })
     }
@@ -127,16 +132,9 @@ impl Packet {
     }
 }
 
-impl Agent {
-    /// How many stand ahead of a client in the queue, if it stands there.
-    fn ahead_of(&self, client: ClientId) -> Option<usize> {
-        self.queue.iter().position(|waiter| waiter.client == client)
-    }
-}
-
 /// The test of a state. It finds the reasons in its own way, so that a fault in the search above shows.
 impl LockState {
-    /// All that is true of a client, whether it waits or not: machines first, then the wire by index.
+    /// All that is true of a client, whether it waits or not: machines first, then the wire by index, then its note.
     pub fn all_reasons(&self, client: ClientId) -> Vec<Reason> {
         let mut reasons = Vec::new();
         for (number, slot) in self.agents.iter().enumerate() {
@@ -159,6 +157,9 @@ impl LockState {
             push_queue(&packet.agent, client, &mut reasons, |ahead| {
                 Reason::PacketQueue { index, ahead }
             });
+        }
+        if self.lost_grants.contains(client) {
+            reasons.push(Reason::GrantLost);
         }
         reasons
     }

@@ -1,27 +1,34 @@
 //! Where the lines of random runs go, and what was met on the way.
 
-use crate::answer::{Handling, Refusal};
+use crate::answer::{Handling, Refusal, StepOutcome};
 use crate::circled::{Origin, TrueNumbers, WireBefore, FULL};
 use crate::counts::Counts;
+use crate::drain_test::Book;
+use crate::giving_up::{Met, Watched};
 use crate::handlings::{check_step, Arrival, StepHandlings};
 use crate::installations::Installation;
-use crate::model::{Cluster, LockId, LockState, MachineId, Preference, TaskId, WIRE_CAPACITY};
+use crate::model::{Cluster, LockId, LockState, Preference, WIRE_CAPACITY};
 use crate::preferences::BehindWriter;
 use crate::reasons::{Reason, REASON_KINDS};
 use crate::still_named::StillNamed;
+use crate::transcript::Record;
+use crate::waits::{Act, EndedWaits, Event};
 use std::io::Write;
 
-/// Kinds of calls: 0 a whole transcript, then acquire, release, deliver, drain, reason, fresh.
-pub const KINDS: [&str; 7] = [
+/// The kinds of calls by their numbers, 0 a whole transcript.
+pub const KINDS: [&str; 9] = [
     "transcript",
     "acquire",
     "release",
     "deliver",
     "drain",
     "reason",
+    "lose",
+    "give up",
     "fresh",
 ];
-const ANSWERS: usize = 17;
+/// The answers from 0 to 18.
+pub const ANSWERS: usize = 19;
 const HANDLINGS: usize = 4;
 
 /// How often each kind of call met each answer, and some extremes.
@@ -61,6 +68,26 @@ pub struct Tally {
     pub sent_back: u64,
     pub most_circled: u64,
     pub sent_back_full: u64,
+    pub giving_up: GivingUp,
+    /// How many drains were tested by the waits that they ended, and how these ended.
+    pub tested_drains: u64,
+    pub drained_waits: EndedWaits,
+}
+
+/// What was met of lost GRANTs and of giving up, in calls, records and steps of drains.
+#[derive(Clone, Copy, Debug, Default, PartialEq, Eq)]
+pub struct GivingUp {
+    /// How many GRANTs were lost, and how many of their clients were noted.
+    pub lost: u64,
+    pub noted: u64,
+    pub gave_up: u64,
+    /// How many GRANTs came to an idle client, and how many of these brought an agent.
+    pub idle_grants: u64,
+    pub idle_agents: u64,
+    /// How many clients a RELEASE took off a queue.
+    pub unqueued: u64,
+    /// How many RELEASEs came to a free decider.
+    pub early: u64,
 }
 
 impl Tally {
@@ -199,6 +226,94 @@ impl Tally {
         format!("circled back {back} most {most} full {full}")
     }
 
+    /// Tests a step by what §8 says of it, and counts what it was; hand-made states pass this test too.
+    pub fn test_giving_up<T>(
+        &mut self,
+        watched: Option<Watched>,
+        outcome: &Result<T, Refusal>,
+        after: Option<&LockState>,
+    ) -> Result<(), String> {
+        if let (Some(watched), Some(after)) = (watched, after) {
+            if let Some(met) = watched.check(outcome, after)? {
+                self.giving_up.count(met);
+            }
+        }
+        Ok(())
+    }
+
+    /// Counts a RELEASE that took its client off a queue.
+    pub fn count_unqueued(&mut self, arrival: Option<&Arrival>, handling: Handling) {
+        let is_taken = handling == Handling::Taken;
+        let unqueued = is_taken && arrival.is_some_and(Arrival::is_of_queued);
+        self.giving_up.unqueued += u64::from(unqueued);
+    }
+
+    /// Goes on with a lock's history of waits past an accepted step, and tests its statuses and notes by it.
+    pub fn test_waits(
+        &mut self,
+        act: Option<Act>,
+        after: Option<&LockState>,
+        book: Option<&mut Book>,
+    ) -> Result<Option<Event>, String> {
+        let (Some(book), Some(after)) = (book, after) else {
+            return Ok(None);
+        };
+        let event = act.and_then(|act| book.waits.follow(act, after));
+        book.waits.check(after)?;
+        Ok(event)
+    }
+
+    pub fn count_drained_waits(&mut self, ended: EndedWaits) {
+        self.tested_drains += 1;
+        self.drained_waits.shown += ended.shown;
+        self.drained_waits.gave_up += ended.gave_up;
+    }
+
+    /// How many drains were tested so, in words.
+    pub fn drained_waits_line(&self) -> String {
+        let (tested, EndedWaits { shown, gave_up }) = (self.tested_drains, self.drained_waits);
+        format!("tested drains {tested} shown {shown} gave up {gave_up}")
+    }
+
+    /// All tests of a call or a record but those of its handling and of the state that it leaves.
+    pub fn test_incoming<T>(
+        &mut self,
+        incoming: Incoming,
+        outcome: &Result<T, Refusal>,
+        after: Option<&LockState>,
+        book: Option<&mut Book>,
+        origin: Origin,
+    ) -> Result<(), String> {
+        let numbers = book.map(|book| &mut book.numbers);
+        self.test_installation(incoming.installation, after)?;
+        self.test_behind_writer(incoming.behind_writer, after)?;
+        self.test_still_named(incoming.still_named, outcome)?;
+        self.test_circled(numbers, incoming.wire, after, origin)?;
+        self.test_giving_up(incoming.giving_up, outcome, after)
+    }
+
+    /// All tests of a call or a record that left the cluster so, with what is kept of its lock.
+    pub fn test_step(
+        &mut self,
+        kind: u8,
+        incoming: Incoming,
+        outcome: &StepOutcome,
+        (cluster, lock): (&Cluster, usize),
+        mut book: Option<&mut Book>,
+        origin: Origin,
+    ) -> Result<(), String> {
+        let state = cluster.locks.get(lock);
+        let mut incoming = incoming.if_accepted(outcome);
+        let (arrival, act) = (incoming.arrival.take(), incoming.act);
+        self.test_handling(kind, arrival, outcome.unwrap_or_default(), state)?;
+        self.test_incoming(incoming, outcome, state, book.as_deref_mut(), origin)?;
+        if origin == Origin::HandMade {
+            return Ok(());
+        }
+        self.test_call(kind, outcome, state, cluster.preference)?;
+        self.test_waits(act, state, book).map(|_| ())
+    }
+
     /// Tests the handling of a call or a record, and counts it; hand-made states pass this test too.
     pub fn test_handling(
         &mut self,
@@ -208,6 +323,7 @@ impl Tally {
         after: Option<&LockState>,
     ) -> Result<(), String> {
         self.count_handling(kind, handling);
+        self.count_unqueued(arrival.as_ref(), handling);
         check_step(arrival.as_ref(), handling, after)
     }
 
@@ -234,6 +350,33 @@ impl Tally {
     }
 }
 
+impl GivingUp {
+    fn count(&mut self, met: Met) {
+        match met {
+            Met::Loss { noted } => {
+                self.lost += 1;
+                self.noted += u64::from(noted);
+            }
+            Met::GaveUp => self.gave_up += 1,
+            Met::IdleGrant { with_agent } => {
+                self.idle_grants += 1;
+                self.idle_agents += u64::from(with_agent);
+            }
+            Met::EarlyRelease => self.early += 1,
+            Met::ShownGrant => (),
+        }
+    }
+
+    /// All of it in words.
+    pub fn line(&self) -> String {
+        let (lost, noted, gave_up) = (self.lost, self.noted, self.gave_up);
+        let (idle_grants, idle_agents) = (self.idle_grants, self.idle_agents);
+        let (unqueued, early) = (self.unqueued, self.early);
+        let grants = format!("idle grants {idle_grants} with agent {idle_agents}");
+        format!("lost {lost} noted {noted} gave up {gave_up} {grants} unqueued {unqueued} early {early}")
+    }
+}
+
 /// What the tests of a step need of the state before it.
 #[derive(Clone, Debug, Default)]
 pub struct Incoming {
@@ -242,59 +385,66 @@ pub struct Incoming {
     pub behind_writer: Option<BehindWriter>,
     pub still_named: Option<StillNamed>,
     pub wire: Option<WireBefore>,
+    pub giving_up: Option<Watched>,
+    pub act: Option<Act>,
 }
 
 impl Incoming {
-    /// What the delivery of an index is to bring a machine of a cluster with this preference.
-    pub fn at(state: &LockState, index: usize, preference: u8) -> Self {
-        let preference = Preference::from_number(preference);
+    /// What a step is to bring a machine of a cluster with this preference, or to do to a wait; an acquire asks for more.
+    pub fn at(state: &LockState, step: &Record, preference: u8) -> Self {
+        let known = Incoming {
+            giving_up: Watched::of(step, state),
+            act: Act::of(step, state),
+            ..Incoming::default()
+        };
+        match *step {
+            Record::Deliver(_, index) => known.with_delivery(state, index, preference),
+            Record::Lose(_, index) => Incoming {
+                wire: Some(WireBefore::of_delivery(state, usize::from(index))),
+                ..known
+            },
+            Record::Acquire(..) | Record::Release(..) | Record::GiveUp(..) => Incoming {
+                wire: Some(WireBefore::of_request(state)),
+                ..known
+            },
+        }
+    }
+
+    fn with_delivery(self, state: &LockState, index: u8, preference: u8) -> Self {
+        let (index, preference) = (usize::from(index), Preference::from_number(preference));
         Incoming {
             installation: Installation::at(state, index),
             arrival: Arrival::at(state, index),
             behind_writer: preference
                 .and_then(|preference| BehindWriter::of_delivery(preference, state, index)),
-            still_named: None,
             wire: Some(WireBefore::of_delivery(state, index)),
+            ..self
         }
     }
 
-    /// The same for a lock that may be out of range.
-    pub fn of_delivery(cluster: &Cluster, lock: LockId, index: u8) -> Self {
-        let (state, index) = (cluster.locks.get(lock.index()), usize::from(index));
-        let incoming = state.map(|state| Incoming::at(state, index, cluster.preference));
-        incoming.unwrap_or_default()
-    }
-
-    /// An acquire brings no packet.
-    pub fn of_acquire(
-        cluster: &Cluster,
-        lock: LockId,
-        machine: MachineId,
-        task: TaskId,
-        mode: u8,
-    ) -> Self {
-        Incoming {
-            behind_writer: BehindWriter::of_acquire(cluster, lock, machine, task, mode),
-            still_named: StillNamed::of_acquire(cluster, lock, machine, task),
-            ..Incoming::of_release(cluster, lock)
+    /// The same for a lock that may be out of range, and for each kind of step.
+    pub fn of(cluster: &Cluster, step: &Record) -> Self {
+        let Some(state) = cluster.locks.get(step.lock().index()) else {
+            return Incoming::default();
+        };
+        let incoming = Incoming::at(state, step, cluster.preference);
+        match *step {
+            Record::Acquire(lock, machine, task, mode) => Incoming {
+                behind_writer: BehindWriter::of_acquire(cluster, lock, machine, task, mode),
+                still_named: StillNamed::of_acquire(cluster, lock, machine, task),
+                ..incoming
+            },
+            _ => incoming,
         }
     }
 
-    /// A release brings no packet and asks nothing.
-    pub fn of_release(cluster: &Cluster, lock: LockId) -> Self {
-        let state = cluster.locks.get(lock.index());
-        Incoming {
-            wire: state.map(WireBefore::of_request),
-            ..Incoming::default()
-        }
-    }
-
-    /// A refused step brings nothing, but what names its client may be why it is refused.
+    /// A refused step brings nothing, but a packet of its client, or a wait that is none, may be why it is refused.
     pub fn if_accepted<T>(self, outcome: &Result<T, Refusal>) -> Self {
         match outcome {
             Ok(_) => self,
             Err(_) => Incoming {
                 still_named: self.still_named,
+                giving_up: self.giving_up,
                 ..Incoming::default()
             },
         }

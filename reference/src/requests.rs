@@ -1,4 +1,5 @@
-//! Acquire and release by a client (document 01, 'Asking and handing back'; document 02, §5 and §6).
+//! Acquire, release and give up by a client, and the loss of its GRANT (document 01, 'Asking and handing back'; document 02, §5,
+//! §6 and §8).
 
 use crate::answer::{Outcome, Refusal};
 use crate::model::{
@@ -29,19 +30,34 @@ impl Cluster {
 
     pub fn release(&mut self, lock: LockId, machine: MachineId, task: TaskId) -> Outcome {
         self.check_well_formed()?;
-        self.release_checked(lock, machine, task)
+        self.ask_checked(lock, machine, task, LockState::release)
     }
 
-    /// A release on a cluster that is known to be well formed.
-    pub(crate) fn release_checked(
+    pub fn give_up(&mut self, lock: LockId, machine: MachineId, task: TaskId) -> Outcome {
+        self.check_well_formed()?;
+        self.ask_checked(lock, machine, task, LockState::give_up)
+    }
+
+    /// A release or a give up on a cluster that is known to be well formed.
+    pub(crate) fn ask_checked(
         &mut self,
         lock: LockId,
         machine: MachineId,
         task: TaskId,
+        ask: fn(&mut LockState, ClientId) -> Outcome,
     ) -> Outcome {
         let state = self.lock_mut(lock)?;
-        let client = checked_client(machine, task)?;
-        state.release(client)
+        ask(state, checked_client(machine, task)?)
+    }
+
+    pub fn lose(&mut self, lock: LockId, index: u8) -> Outcome {
+        self.check_well_formed()?;
+        self.lose_checked(lock, index)
+    }
+
+    /// A loss on a cluster that is known to be well formed.
+    pub(crate) fn lose_checked(&mut self, lock: LockId, index: u8) -> Outcome {
+        self.lock_mut(lock)?.lose(usize::from(index))
     }
 
     /// The state of a lock, or refusal 1.
@@ -131,10 +147,40 @@ impl LockState {
         if is_listed {
             self.remove_holder(machine, client);
         } else {
-            let message = Message::Release { client };
-            self.wire.push(Packet::new(message, Address::Decider));
+            self.send_release(client);
         }
         Ok(())
+    }
+
+    /// Ends a wait. Wherever the request is, what undoes it goes over the decider, also with an agent on the client's machine.
+    pub(crate) fn give_up(&mut self, client: ClientId) -> Outcome {
+        if !self.waiting_clients().contains(client) {
+            return Err(Refusal::NothingToGiveUp);
+        }
+        check_wire_length(self.wire.len() + 1)?;
+        self.clients[client.index()] = ClientStatus::Idle;
+        self.lost_grants.remove(client);
+        self.send_release(client);
+        Ok(())
+    }
+
+    /// Takes a GRANT off the wire; only a client that waits can miss it.
+    fn lose(&mut self, index: usize) -> Outcome {
+        let packet = self.wire.get(index).ok_or(Refusal::IndexOutOfRange)?;
+        if !packet.can_be_lost() {
+            return Err(Refusal::CannotBeLost);
+        }
+        let lost = self.wire.remove(index).message.client();
+        let waiting = self.waiting_clients();
+        if let Some(client) = lost.filter(|&client| waiting.contains(client)) {
+            self.lost_grants.insert(client);
+        }
+        Ok(())
+    }
+
+    fn send_release(&mut self, client: ClientId) {
+        let message = Message::Release { client };
+        self.wire.push(Packet::new(message, Address::Decider));
     }
 
     /// Whether the machine has an agent that lists the client as a holder.

@@ -1,8 +1,8 @@
 //! Transcripts: reading records, running them, and the listing (document 01,
-//! 'Transcripts and the desk program'; document 02, §4).
+//! 'Transcripts and the desk program'; document 02, §4 and §8).
 
 use crate::answer::{answer_number, without_handling, Handling, Outcome, Refusal, StepOutcome};
-use crate::model::{Cluster, LockId, MachineId, TaskId};
+use crate::model::{Cluster, LockId, LockState, MachineId, TaskId};
 use std::fmt::Write;
 
 /// A longer transcript is refused with 13.
@@ -19,6 +19,8 @@ pub enum Record {
     Acquire(LockId, MachineId, TaskId, u8),
     Release(LockId, MachineId, TaskId),
     Deliver(LockId, u8),
+    Lose(LockId, u8),
+    GiveUp(LockId, MachineId, TaskId),
 }
 
 impl Record {
@@ -27,27 +29,35 @@ impl Record {
             Record::Acquire(..) => 1,
             Record::Release(..) => 2,
             Record::Deliver(..) => 3,
+            Record::Lose(..) => 6,
+            Record::GiveUp(..) => 7,
         }
     }
 
     pub fn lock(&self) -> LockId {
         match *self {
-            Record::Acquire(lock, ..) | Record::Release(lock, ..) | Record::Deliver(lock, _) => {
-                lock
+            Record::Acquire(lock, ..)
+            | Record::Release(lock, ..)
+            | Record::Deliver(lock, _)
+            | Record::Lose(lock, _)
+            | Record::GiveUp(lock, ..) => lock,
+        }
+    }
+
+    /// The bytes behind length and kind.
+    pub fn arguments(&self) -> Vec<u8> {
+        match *self {
+            Record::Acquire(lock, machine, task, mode) => vec![lock.0, machine.0, task.0, mode],
+            Record::Release(lock, machine, task) | Record::GiveUp(lock, machine, task) => {
+                vec![lock.0, machine.0, task.0]
             }
+            Record::Deliver(lock, index) | Record::Lose(lock, index) => vec![lock.0, index],
         }
     }
 
     pub fn run(&self, cluster: &mut Cluster) -> StepOutcome {
-        match *self {
-            Record::Acquire(lock, machine, task, mode) => {
-                without_handling(cluster.acquire(lock, machine, task, mode))
-            }
-            Record::Release(lock, machine, task) => {
-                without_handling(cluster.release(lock, machine, task))
-            }
-            Record::Deliver(lock, index) => cluster.deliver(lock, index),
-        }
+        cluster.check_well_formed()?;
+        self.run_checked(cluster)
     }
 
     /// The same on a cluster that is known to be well formed: each call keeps
@@ -58,9 +68,13 @@ impl Record {
                 without_handling(cluster.acquire_checked(lock, machine, task, mode))
             }
             Record::Release(lock, machine, task) => {
-                without_handling(cluster.release_checked(lock, machine, task))
+                without_handling(cluster.ask_checked(lock, machine, task, LockState::release))
             }
             Record::Deliver(lock, index) => cluster.deliver_checked(lock, index),
+            Record::Lose(lock, index) => without_handling(cluster.lose_checked(lock, index)),
+            Record::GiveUp(lock, machine, task) => {
+                without_handling(cluster.ask_checked(lock, machine, task, LockState::give_up))
+            }
         }
     }
 
@@ -78,6 +92,12 @@ impl Record {
                 TaskId(task),
             )),
             (3, &[lock, index]) => Some(Record::Deliver(LockId(lock), index)),
+            (6, &[lock, index]) => Some(Record::Lose(LockId(lock), index)),
+            (7, &[lock, machine, task]) => Some(Record::GiveUp(
+                LockId(lock),
+                MachineId(machine),
+                TaskId(task),
+            )),
             _ => None,
         }
     }

@@ -1,4 +1,4 @@
-//! Which clusters are well formed (document 01, 'What stands on the bench'; document 02, §5 and §7).
+//! Which clusters are well formed (document 01, 'What stands on the bench'; document 02, §5, §7 and §8).
 
 use crate::answer::{Outcome, Refusal};
 use crate::model::{
@@ -41,6 +41,7 @@ impl LockState {
         let owner_in_range = self.decider.owner.is_none_or(|o| o.machine.is_valid());
         owner_in_range
             && !self.stale_slot
+            && self.lost_grants.is_within(self.waiting_clients())
             && self.agents.iter().flatten().all(Agent::is_well_formed)
             && self.wire.len() <= WIRE_CAPACITY
             && self.wire.iter().all(Packet::is_well_formed)

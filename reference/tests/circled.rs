@@ -9,7 +9,7 @@ use reference::model::{
     Address, Agent, ClientId, ClientStatus, Cluster, LockId, LockState, MachineId, Message, Mode,
     Owner, Packet, TaskId, LOCKS,
 };
-use reference::random_calls::{Call, Profile, DELIVER, HAND_MADE};
+use reference::random_calls::{Call, Profile, DELIVER, HAND_MADE, LOSE};
 use reference::random_runs::{random_run, Run};
 use reference::random_states::{hand_made_cluster, random_state};
 use reference::random_transcripts::{random_transcript, transcript_bytes};
@@ -367,10 +367,10 @@ fn machine_adds_one_up_to_255() {
             let sent = sent(READERS, coming(Some(S), None, packet));
             assert_eq!(sent, [(message, DECIDER, after)]);
         }
-        // Nor does an agent take the RELEASE of a client that it does not list.
+        // Nor does an agent take the RELEASE of a client that it neither lists nor has in its queue.
         let message = release_of(NAMED);
         let packet = with_count(before, plain(message, to(OWNER)));
-        let agent = agent_of(&[4], &[(NAMED.0, X)]);
+        let agent = agent_of(&[4], &[(9, X)]);
         let sent = sent(READERS, coming(Some(S), Some(agent), packet));
         assert_eq!(sent, [(message, DECIDER, after)]);
     }
@@ -554,7 +554,7 @@ fn count_is_in_the_bytes_of_a_cluster() {
     ];
     let holders = [1, 0, 1, 0, 0, 0, 0, 0, 0, 0, 0, 0, 0, 0, 0, 0];
     // The preference and lock 0: decider, agent slots, clients, then the wire.
-    let mut bytes = vec![0; 1 + 4 + 4 + 16];
+    let mut bytes = vec![0; 1 + 4 + 4 + 32];
     bytes.push(4);
     bytes.extend([3, 5, 0, 0, 0, 0, 0, 200, 0]);
     bytes.extend([1, 9, 3, 1, 1, 2, 0, 255, 0]);
@@ -562,8 +562,8 @@ fn count_is_in_the_bytes_of_a_cluster() {
     bytes.extend(holders);
     bytes.extend([1, 9, 2]);
     bytes.extend([1, 15, 2, 0, 0, 0, 0, 0, 0]);
-    // The seven other locks are fresh, with 25 bytes each.
-    bytes.resize(bytes.len() + 7 * 25, 0);
+    // The seven other locks are fresh, with 41 bytes each.
+    bytes.resize(bytes.len() + 7 * 41, 0);
     assert_eq!(cluster_digest(3, &cluster), digest_of(3, &bytes));
 }
 
@@ -576,20 +576,20 @@ struct DrawnLock {
     packets: Vec<(bool, u8)>,
 }
 
-/// Item 1 has 4 draws, the decider 3, each machine 38, the clients 16, and each packet 44, of which 37 are of its agent.
+/// Item 1 has 4 draws, the decider 3, each machine 38, each client 2, and each packet 44, of which 37 are of its agent.
 fn draw_lock(generator: &mut Generator) -> DrawnLock {
-    let lengths = [0, 0, 1, 1, 1, 2, 2, 2, 3, 3, 4, 5, 6, 31, 32, 33];
+    let lengths = [0, 0, 1, 1, 1, 2, 2, 2, 3, 3, 4, 5, 6, 47, 48, 49];
     let counts = [0, 0, 1, 253, 254, 255];
     let skip = |generator: &mut Generator, draws| {
         for _ in 0..draws {
             let _ = generator.output();
         }
     };
-    let (fault, value) = (generator.draw(16), generator.draw(239));
+    let (fault, value) = (generator.draw(17), generator.draw(239));
     let drawn = lengths[generator.draw(16) as usize];
-    let length = if fault == 11 { 33 } else { drawn };
+    let length = if fault == 11 { 49 } else { drawn };
     let target = generator.draw(4 + length);
-    skip(generator, 3 + 4 * 38 + 16);
+    skip(generator, 3 + 4 * 38 + 16 * 2);
     let packet = |index| {
         let kind = generator.draw(8);
         skip(generator, 4);
@@ -622,7 +622,7 @@ fn hand_made_packets_have_their_counts() {
             let drawn = draw_lock(&mut generator);
             let state = &cluster.locks[(seed as usize + place) % LOCKS];
             // A wire that claims more than its slots has copies of the first packet behind them.
-            let counts = state.wire.iter().map(|packet| packet.circled).take(33);
+            let counts = state.wire.iter().map(|packet| packet.circled).take(49);
             let expected = drawn.packets.iter().map(|packet| packet.1);
             assert!(counts.eq(expected.clone()), "state {seed}");
             expected.for_each(|count| met[usize::from(count)] += 1);
@@ -767,6 +767,36 @@ fn call_of_a_client_only_sends() {
     let empty = LockState::default();
     let drained = WireBefore::of_delivery(&empty, 0);
     assert_eq!(drained, WireBefore::of_request(&empty));
+}
+
+/// At a free decider a RELEASE keeps its number; at any other it would be another packet, and so would an ACQUIRE.
+#[test]
+fn early_release_keeps_its_number() {
+    let numbers_after = |mode: Option<Mode>, message: Message| {
+        let packet = plain(message, DECIDER);
+        let before = coming(mode, None, packet.clone());
+        let mut after = before.clone();
+        let _ = after.wire.remove(1);
+        after.wire.push(packet);
+        let mut numbers = TrueNumbers(vec![4, 300, 6]);
+        let back = numbers.follow(&WireBefore::of_delivery(&before, 1), &after);
+        assert_eq!(back, Ok(None));
+        numbers.0
+    };
+    assert_eq!(numbers_after(None, release_of(NAMED)), [4, 6, 300]);
+    assert_eq!(numbers_after(Some(S), release_of(NAMED)), [4, 6, 0]);
+    assert_eq!(numbers_after(None, request(NAMED, S, false)), [4, 6, 0]);
+}
+
+/// A lost packet takes its number along.
+#[test]
+fn loss_takes_a_number_off() {
+    let before = coming(Some(S), None, plain(grant(NAMED, S), to(1)));
+    let mut after = before.clone();
+    let _ = after.wire.remove(1);
+    let mut numbers = TrueNumbers(vec![4, 0, 6]);
+    let back = numbers.follow(&WireBefore::of_delivery(&before, 1), &after);
+    assert_eq!((back, numbers.0), (Ok(None), vec![4, 6]));
 }
 
 #[test]
@@ -930,7 +960,7 @@ fn packets_sent_back_are_tallied() {
 /// A refused step is not followed, an accepted one of any kind is.
 #[test]
 fn accepted_steps_are_followed() {
-    for kind in 1..=3 {
+    for kind in [1, 2, 3, 6, 7] {
         let call = Call {
             kind,
             lock: LOCK,
@@ -939,7 +969,7 @@ fn accepted_steps_are_followed() {
             mode: SHARED,
             index: 1,
         };
-        let (state, taken) = (d6(), kind == DELIVER);
+        let (state, taken) = (d6(), kind == DELIVER || kind == LOSE);
         let expected = match taken {
             true => WireBefore::of_delivery(lock(&state), 1),
             false => WireBefore::of_request(lock(&state)),
@@ -1044,12 +1074,16 @@ impl Fate {
         };
         match (&state.agents[machine.index()], message) {
             (None, _) => Fate::Back,
-            (Some(agent), Message::Release { client }) if !agent.holders.contains(client) => {
-                Fate::Back
-            }
+            (Some(agent), Message::Release { client }) if !is_known(agent, client) => Fate::Back,
             _ => Fate::Gone,
         }
     }
+}
+
+/// Among the holders or in the queue.
+fn is_known(agent: &Agent, client: ClientId) -> bool {
+    let in_queue = agent.queue.iter().any(|waiter| waiter.client == client);
+    in_queue || agent.holders.contains(client)
 }
 
 /// Tested counts, deliveries that sent a packet back, the greatest number, and packets of these that had 255 times or more
@@ -1112,6 +1146,9 @@ impl Counted {
         let fate = packet.map(|(state, packet)| Fate::of(state, packet));
         let outcome = call.perform(&mut self.cluster)?;
         let numbers = &mut self.numbers[lock];
+        if call.kind == LOSE {
+            let _ = numbers.remove(index);
+        }
         if call.kind == DELIVER {
             let number = numbers.remove(index);
             match fate.expect("a packet was delivered") {
@@ -1178,7 +1215,7 @@ fn met_by_transcript(seed: u64) -> Met {
     met
 }
 
-/// All nine profiles with each preference, with drains that are kept and drains that are not.
+/// All eleven profiles with each preference, with drains that are kept and drains that are not.
 #[test]
 fn every_packet_of_a_run_is_counted() {
     let met = (1..=36).map(|seed| {
@@ -1191,7 +1228,7 @@ fn every_packet_of_a_run_is_counted() {
     assert_eq!(Met::of(&tally_of(random_run, 1..=36)), met);
 }
 
-/// Here counts stay at 255, and in drains that are refused with 14 a packet goes back 8,192 times.
+/// Here counts stay at 255, and in drains that are refused with 14 a packet goes back 16,384 times.
 #[test]
 fn every_packet_of_a_hand_made_state_is_counted() {
     let met = (1..=600).map(|seed| {
@@ -1201,7 +1238,7 @@ fn every_packet_of_a_hand_made_state_is_counted() {
         met_by_run(seed, HAND_MADE, generator, counted)
     });
     let met = met.fold(Met::default(), Met::plus);
-    assert!(met.most > 8_192 && met.full > 0, "{met:?}");
+    assert!(met.most > 16_384 && met.full > 0, "{met:?}");
     assert_eq!(Met::of(&tally_of(random_state, 1..=600)), met);
 }
 

@@ -243,15 +243,16 @@ fn only_a_shared_lock_has_marks() {
 }
 
 #[test]
-fn client_is_named_twice_at_most() {
+fn client_is_named_three_times_at_most() {
     let unmarked = |number| plain(request(ClientId(number), Mode::Shared, false), to(0));
     let mut state = owned(Mode::Shared);
     state.wire = vec![unmarked(15), release_of(7), release_of(15)];
     assert_eq!(state.check_counts(), Ok(()));
-    state
-        .wire
-        .push(plain(grant(ClientId(15), Mode::Shared), to(3)));
-    says(&state, "3 packets name client 15");
+    let granted = plain(grant(ClientId(15), Mode::Shared), to(3));
+    state.wire.push(granted.clone());
+    assert_eq!(state.check_counts(), Ok(()));
+    state.wire.push(granted);
+    says(&state, "4 packets name client 15");
 }
 
 /// A FREE brings an agent, so two are two agents; the second one here has lost its own.
@@ -266,17 +267,17 @@ fn one_packet_at_most_is_a_free() {
     says(&state, "2 packets are FREEs");
 }
 
-/// Two packets of sixteen clients and a FREE are 33; a 34th needs a client beyond the sixteen.
+/// Three packets of sixteen clients and a FREE are 49; a 50th needs a client beyond the sixteen.
 #[test]
-fn wire_has_33_packets_at_most() {
+fn wire_has_49_packets_at_most() {
     let mut state = owned(Mode::Shared);
     let agent = state.agents[0].take().expect("an agent on machine 0");
     let free = Packet::with_agent(Message::Free, Address::Decider, agent);
-    let releases = (0..32).map(|number| release_of(number / 2));
+    let releases = (0..48).map(|number| release_of(number / 3));
     state.wire = releases.chain([free]).collect();
     assert_eq!(state.check_counts(), Ok(()));
     state.wire.push(release_of(16));
-    says(&state, "34 packets on the wire");
+    says(&state, "50 packets on the wire");
 }
 
 /// With several things wrong the first in the order of the tests is said.
@@ -292,7 +293,7 @@ fn tests_have_an_order() {
     state.wire.truncate(2);
     state.wire.resize(36, release_of(9));
     says(&state, "34 packets name client 9");
-    state.wire.truncate(4);
+    state.wire.truncate(5);
     says(&state, "2 packets are FREEs");
 }
 
@@ -319,23 +320,26 @@ fn run_stops_at_a_broken_count() {
     ));
 }
 
-/// Two requests of a client are not too many to count, but granting one makes three packets.
+/// Three requests of a client are not too many to count, but granting one makes four packets.
 #[test]
 fn run_stops_inside_a_drain() {
     let unmarked = plain(request(ClientId(4), Mode::Shared, false), Address::Decider);
     let mut state = owned(Mode::Shared);
-    state.wire = vec![release_of(9), unmarked.clone(), unmarked];
+    state.wire = vec![release_of(9), unmarked.clone(), unmarked.clone(), unmarked];
     assert_eq!(state.check_counts(), Ok(()));
-    assert_drain_stopped(&state, "drain step 2: 3 packets name client 4");
+    assert_drain_stopped(&state, "drain step 2: 4 packets name client 4");
 }
 
-/// Nothing is wrong to count in a RELEASE at a free lock, but it cannot be placed.
+/// Nothing is wrong to count in a GRANT whose client stands in the queue that it has to go back to, but it cannot be placed.
 #[test]
 fn run_stops_at_a_refusal_9() {
-    let state = LockState {
-        wire: (0..16).map(release_of).collect(),
-        ..LockState::default()
-    };
+    let mut state = owned(Mode::Exclusive);
+    let mut agent = state.agents[0].take().expect("an agent on machine 0");
+    agent.queue = waiters(&[(4, Mode::Exclusive)]).into();
+    state.wire = vec![Packet {
+        rejected: true,
+        ..Packet::with_agent(grant(ClientId(4), Mode::Exclusive), to(0), agent)
+    }];
     assert_eq!(state.check_counts(), Ok(()));
     assert_drain_stopped(&state, "drain is answered 9");
     assert!(stopped(READERS, 4, &state).ends_with(": deliver is answered 9"));
@@ -353,7 +357,8 @@ fn run_stops_at_a_refusal_10() {
     let mut state = owned(Mode::Shared);
     let agent = state.agents[0].take().expect("an agent on machine 0");
     let free = Packet::with_agent(Message::Free, Address::Decider, agent);
-    let packets = (0..16).map(unmarked).chain((0..16).map(release_of));
+    let releases = (0..32).map(|number| release_of(number / 2));
+    let packets = (0..16).map(unmarked).chain(releases);
     state.wire = packets.chain([free]).collect();
     assert_eq!(state.check_counts(), Ok(()));
     assert_drain_stopped(&state, "drain is answered 10");
@@ -373,9 +378,9 @@ fn hand_made_run_is_not_tested() {
 /// Each call of a lock that exists, answered 1 otherwise, and each step of a drain.
 #[test]
 fn every_state_of_a_run_is_tested() {
-    let tally = tally_of(random_run, 1..=9);
-    let calls = &tally.answers[1..=3];
-    let on_a_lock = |answers: &[u64; 17]| answers.iter().sum::<u64>() - answers[1];
+    let tally = tally_of(random_run, 1..=11);
+    let calls = [1, 2, 3, 6, 7].map(|kind: usize| tally.answers[kind]);
+    let on_a_lock = |answers: &[u64; 19]| answers.iter().sum::<u64>() - answers[1];
     let expected = calls.iter().map(on_a_lock).sum::<u64>() + tally.drain_steps;
     assert_eq!(tally.tested_states, expected);
     assert!(tally.most_packets >= tally.longest_wire);

@@ -8,7 +8,7 @@ use reference::generator::Generator;
 use reference::handlings::{check_step, Arrival, StepHandlings};
 use reference::model::{
     Address, Agent, ClientId, ClientStatus, Cluster, LockId, LockState, MachineId, Message, Mode,
-    Owner, Packet, TaskId,
+    Owner, Packet,
 };
 use reference::random_calls::{Call, Profile, ACQUIRE, DELIVER, DRAIN, HAND_MADE, TRANSCRIPT};
 use reference::random_runs::random_run;
@@ -117,19 +117,51 @@ fn without_an_agent_here_every_packet_goes_back() {
     }
 }
 
-/// The last two agents have the client in the queue, which does not make it a holder.
 #[test]
 fn release_of_no_holder_goes_back() {
     let agents = [
         agent_of(S, &[], &[]),
         agent_of(S, &[4, 6], &[]),
         agent_of(X, &[4], &[(6, X)]),
-        agent_of(X, &[4], &[(5, X)]),
-        agent_of(S, &[], &[(9, X), (5, S)]),
     ];
     for agent in agents {
         assert_sent_back(release_of(NAMED.0), Some(agent), Handling::NotHolder);
     }
+}
+
+/// Amended by document 02, §8: who is no holder but stands in the queue is taken off it. No agent leaves, also without a holder,
+/// and nobody behind is served.
+#[test]
+fn release_of_a_queued_client_is_taken() {
+    let message = release_of(NAMED.0);
+    let cases = [
+        (X, vec![4], vec![(5, X)], vec![]),
+        (S, vec![], vec![(9, X), (5, S)], vec![(9, X)]),
+        (
+            S,
+            vec![4],
+            vec![(5, X), (9, S), (13, S)],
+            vec![(9, S), (13, S)],
+        ),
+        (
+            X,
+            vec![],
+            vec![(6, S), (5, S), (9, X)],
+            vec![(6, S), (9, X)],
+        ),
+    ];
+    for (mode, holders, queue, left) in cases {
+        let agent = agent_of(mode, &holders, &queue);
+        assert_taken(message, agent, Some(agent_of(mode, &holders, &left)), None);
+    }
+}
+
+/// By hand a client may stand in the queue and be listed: it leaves as a holder, and keeps its place.
+#[test]
+fn release_of_a_queued_holder_takes_the_holder() {
+    let (message, queue) = (release_of(NAMED.0), [(5, X), (9, S)]);
+    let agent = agent_of(S, &[4, 5], &queue);
+    assert_taken(message, agent, Some(agent_of(S, &[4], &queue)), None);
 }
 
 #[test]
@@ -286,18 +318,6 @@ fn grant_or_free_at_a_machine_has_none() {
     }
 }
 
-fn acquire_record(machine: u8, task: u8, mode: u8) -> Record {
-    Record::Acquire(LOCK, MachineId(machine), TaskId(task), mode)
-}
-
-fn release_record(machine: u8, task: u8) -> Record {
-    Record::Release(LOCK, MachineId(machine), TaskId(task))
-}
-
-fn deliver_record(index: u8) -> Record {
-    Record::Deliver(LOCK, index)
-}
-
 /// On the client's own machine an acquire joins, queues or, with no agent, sends an ACQUIRE; a release takes a listed client
 /// off or sends a RELEASE. No packet is delivered by any of them.
 #[test]
@@ -369,21 +389,10 @@ fn early() -> Vec<(Record, u8, Handling)> {
     ]
 }
 
-fn bytes_of(records: &[Record]) -> Vec<u8> {
-    let bytes = |record: &Record| match *record {
-        Record::Acquire(lock, machine, task, mode) => {
-            vec![8, 0, 1, 0, lock.0, machine.0, task.0, mode]
-        }
-        Record::Release(lock, machine, task) => vec![7, 0, 2, 0, lock.0, machine.0, task.0],
-        Record::Deliver(lock, index) => vec![6, 0, 3, 0, lock.0, index],
-    };
-    records.iter().flat_map(bytes).collect()
-}
-
 /// The bytes of the first records of a list.
 fn first_bytes(steps: &[(Record, u8, Handling)], count: usize) -> Vec<u8> {
     let records: Vec<Record> = steps[..count].iter().map(|step| step.0).collect();
-    bytes_of(&records)
+    records_bytes(&records)
 }
 
 #[test]
@@ -421,7 +430,7 @@ fn assert_last(steps: &[(Record, u8, Handling)], count: usize, handling: Handlin
     assert_eq!(run(&bytes), (0, count, handling));
     // The record behind the bad one would be taken, and is not run.
     let bad = [6, 0, 4, 0, 0, 0];
-    let behind = bytes_of(&[deliver_record(0)]);
+    let behind = records_bytes(&[deliver_record(0)]);
     let broken = [&bytes[..], &bad, &behind].concat();
     assert_eq!(run(&broken), (12, count + 1, handling));
     let cut_short = [&bytes[..], &[6, 0, 3]].concat();
@@ -461,7 +470,7 @@ fn refused_record_in_between_changes_nothing() {
 fn transcript_that_is_too_long_has_none() {
     let nowhere = Record::Deliver(LockId(1), 0);
     let busy = first_bytes(&busy(), 14);
-    let mut bytes = [busy, bytes_of(&vec![nowhere; 10_907])].concat();
+    let mut bytes = [busy, records_bytes(&vec![nowhere; 10_907])].concat();
     assert_eq!(bytes.len(), 65_535);
     assert_eq!(run(&bytes), (0, 10_921, Handling::Taken));
     bytes.push(6);
@@ -484,7 +493,7 @@ fn transcripts_are_apart() {
     let mut cluster = Cluster::new();
     let first = cluster.run_transcript(&first_bytes(&busy(), 9));
     assert_eq!(first.handling, Handling::NotHolder);
-    let second = cluster.run_transcript(&bytes_of(&[acquire_record(2, 0, SHARED)]));
+    let second = cluster.run_transcript(&records_bytes(&[acquire_record(2, 0, SHARED)]));
     assert_eq!(second.handling, Handling::None);
 }
 
@@ -634,20 +643,21 @@ fn shared_on_0(wire: Vec<Packet>) -> LockState {
     state
 }
 
-/// The RELEASE of 4 is taken; at the free decider the next one cannot be placed.
+/// The RELEASE of 4 is taken; at the free decider the marked ACQUIRE cannot be placed.
 #[test]
 fn drain_refused_with_9_has_none() {
-    let mut state = shared_on_0(vec![plain(release_of(4), to(0)), other(5)]);
+    let marked = plain(request(ClientId(5), S, true), Address::Decider);
+    let mut state = shared_on_0(vec![plain(release_of(4), to(0)), marked]);
     state.decider.owner = None;
     let steps = [(1, Handling::Taken)];
     assert_refused_drain(&state, &steps, Refusal::CannotBePlaced);
 }
 
-/// From a full wire the marked ACQUIRE is taken. The first grant of the decider leaves 33 packets, the second would leave 34.
+/// From a full wire the marked ACQUIRE is taken. The first grant of the decider leaves 49 packets, the second would leave 50.
 #[test]
 fn drain_refused_with_10_has_none() {
     let mut wire = vec![plain(request(ClientId(6), S, true), to(0))];
-    wire.resize(33, plain(request(ClientId(7), S, false), Address::Decider));
+    wire.resize(49, plain(request(ClientId(7), S, false), Address::Decider));
     let steps = [(1, Handling::Taken), (1, Handling::None)];
     assert_refused_drain(&shared_on_0(wire), &steps, Refusal::WireFull);
 }
@@ -811,12 +821,70 @@ fn taken_is_said_where_there_is_an_agent() {
 }
 
 #[test]
-fn taken_release_is_of_a_listed_client() {
-    let before = coming(release_of(NAMED.0), Some(agent_of(S, &[4], &[(5, S)])));
-    let words = "taken, but client 5 is not listed on machine 2";
+fn taken_release_is_of_a_listed_or_queued_client() {
+    let before = coming(release_of(NAMED.0), Some(agent_of(S, &[4], &[(9, S)])));
+    let words = "taken, but client 5 is neither listed nor queued on machine 2";
     says(&before, Handling::Taken, &gone(&before, &[]), Err(words));
     let before = coming(request(NAMED, S, true), Some(agent_of(S, &[4], &[])));
     says(&before, Handling::Taken, &gone(&before, &[]), Ok(()));
+}
+
+/// An agent that lists 4 and has 9, then perhaps 5, then 3 in its queue.
+fn agent_with_queue(has_5: bool) -> Agent {
+    let queue = [(9, X), (5, S), (3, S)];
+    let left: Vec<(u8, Mode)> = queue.into_iter().filter(|of| has_5 || of.0 != 5).collect();
+    agent_of(S, &[4], &left)
+}
+
+/// The RELEASE of 5 is gone from the wire; machine 2 is left with this agent or none, and this is sent, if anything.
+fn left(agent: Option<Agent>, sent: &[Packet]) -> LockState {
+    let before = coming(release_of(NAMED.0), Some(agent_with_queue(true)));
+    let mut after = gone(&before, sent);
+    after.agents[2] = agent;
+    after
+}
+
+/// Its entry alone is gone: whoever else is listed or queued, the mode, the incarnation and the wire are as before.
+#[test]
+fn taken_release_of_a_queued_client_changes_nothing_else() {
+    let before = coming(release_of(NAMED.0), Some(agent_with_queue(true)));
+    let shorter = || agent_with_queue(false);
+    let after = left(Some(shorter()), &[]);
+    says(&before, Handling::Taken, &after, Ok(()));
+    let granted = plain(grant(ClientId(3), S), Address::Decider);
+    let leaving = Packet::with_agent(Message::Free, Address::Decider, shorter());
+    let restarted = Agent {
+        incarnation: 0,
+        ..shorter()
+    };
+    let wrong = [
+        left(Some(agent_with_queue(true)), &[]),
+        left(None, &[]),
+        left(None, &[leaving]),
+        left(Some(shorter()), &[granted]),
+        left(Some(agent_of(S, &[4], &[(3, S), (9, X)])), &[]),
+        left(Some(agent_of(S, &[4], &[(9, X)])), &[]),
+        left(Some(agent_of(S, &[], &[(9, X), (3, S)])), &[]),
+        left(Some(agent_of(X, &[4], &[(9, X), (3, S)])), &[]),
+        left(Some(restarted), &[]),
+        before.clone(),
+    ];
+    let words = "the step did more, or less, than take the client off the queue";
+    for after in wrong {
+        says(&before, Handling::Taken, &after, Err(words));
+    }
+}
+
+#[test]
+fn release_of_a_queued_client_is_not_sent_back() {
+    let before = coming(release_of(NAMED.0), Some(agent_with_queue(true)));
+    let words = "not a holder, but client 5 is queued on machine 2";
+    says(
+        &before,
+        Handling::NotHolder,
+        &sent_back(&before),
+        Err(words),
+    );
 }
 
 /// Those that were on the wire before are not sent by the step; a GRANT and a FREE may be.
@@ -957,7 +1025,7 @@ fn handlings_are_tallied() {
     assert_eq!([transcript, deliver], [[0, 0, 0, 1], [1, 1, 0, 1]]);
     assert_eq!(drain, [0, 0, 1, 1]);
     assert_eq!([acquire, release], [[1, 0, 0, 0], [0; 4]]);
-    assert_eq!(others, [[0; 4]; 2]);
+    assert_eq!(others, [[0; 4]; 4]);
 }
 
 #[test]
@@ -1001,8 +1069,12 @@ fn by_the_papers(state: &LockState, index: u8) -> Handling {
     match (packet.message, &state.agents[machine.index()]) {
         (Message::Grant { .. } | Message::Free, _) => Handling::None,
         (_, None) => Handling::NoAgent,
-        (Message::Release { client }, Some(agent)) if !agent.holders.contains(client) => {
-            Handling::NotHolder
+        (Message::Release { client }, Some(agent)) => {
+            let in_queue = agent.queue.iter().any(|waiter| waiter.client == client);
+            match agent.holders.contains(client) || in_queue {
+                true => Handling::Taken,
+                false => Handling::NotHolder,
+            }
         }
         _ => Handling::Taken,
     }
@@ -1019,27 +1091,18 @@ fn perform(call: Call, cluster: &mut Cluster) -> (Handling, u8) {
 }
 
 /// Makes the steps of a drain, on a copy, up to the first that is refused; the last handling that was met.
-fn met_by_draining(cluster: &Cluster, lock: LockId) -> Handling {
+fn met_by_draining(cluster: &Cluster, call: Call) -> Handling {
     let mut cluster = cluster.clone();
     let mut last = Handling::None;
     if !cluster.is_well_formed() {
         return last;
     }
     for _ in 0..DRAIN_LIMIT {
-        let Some(state) = cluster.locks.get(lock.index()) else {
+        let Some(step) = drain_step(&cluster, call) else {
             return last;
         };
-        let holding = |&c: &u8| matches!(state.clients[usize::from(c)], ClientStatus::Holding(_));
-        let met = by_the_papers(state, 0);
-        let accepted = match (state.wire.is_empty(), (0..16).find(holding)) {
-            (false, _) => cluster.deliver(lock, 0).is_ok(),
-            (true, Some(c)) => {
-                let (machine, task) = (MachineId(c / 4), TaskId(c % 4));
-                cluster.release(lock, machine, task).is_ok()
-            }
-            (true, None) => return last,
-        };
-        if !accepted {
+        let (met, answer) = perform(step, &mut cluster);
+        if answer != 0 {
             return last;
         }
         if met != Handling::None {
@@ -1052,7 +1115,7 @@ fn met_by_draining(cluster: &Cluster, lock: LockId) -> Handling {
 /// How often each handling was met, none too, by calls and by drains, and how many refused drains had met one.
 #[derive(Clone, Copy, Debug, Default, PartialEq, Eq)]
 struct Met {
-    acquires_and_releases: u64,
+    other_calls: u64,
     deliveries: [u64; 4],
     drains: [u64; 4],
     refused_after_one: u64,
@@ -1087,7 +1150,7 @@ fn carry_out(
             let mut drained = cluster.clone();
             let outcome = drained.drain(call.lock);
             let (answer, count) = (answer_number(&outcome), outcome.map_or(0, |d| d.count));
-            let steps = met_by_draining(&cluster, call.lock);
+            let steps = met_by_draining(&cluster, call);
             let handling = if answer == 0 { steps } else { Handling::None };
             met.drains[usize::from(handling.number())] += 1;
             met.refused_after_one += u64::from(handling != steps);
@@ -1104,7 +1167,7 @@ fn carry_out(
         if call.kind == DELIVER {
             met.deliveries[usize::from(handling.number())] += 1;
         } else {
-            met.acquires_and_releases += 1;
+            met.other_calls += 1;
         }
         digest.bytes(&[call.kind, answer, handling.number()]);
         digest.bytes(&reason_numbers(&call.ask_reason(&cluster)));
@@ -1115,10 +1178,12 @@ fn carry_out(
         assert_line(lines.next().expect("a line"), answer, handling, 0, &digest);
     }
     assert_eq!(lines.next(), None);
-    let [transcript, acquire, release, deliver, drain, reason, fresh] = tally.handled;
+    let [transcript, acquire, release, deliver, drain, reason, lose, give_up, fresh] =
+        tally.handled;
     assert_eq!((deliver, drain), (met.deliveries, met.drains));
-    let others: [u64; 4] = std::array::from_fn(|number| acquire[number] + release[number]);
-    assert_eq!(others, [met.acquires_and_releases, 0, 0, 0]);
+    let others = [acquire, release, lose, give_up];
+    let others: [u64; 4] = std::array::from_fn(|number| others.map(|of| of[number]).iter().sum());
+    assert_eq!(others, [met.other_calls, 0, 0, 0]);
     assert_eq!([transcript, reason, fresh], [[0; 4]; 3]);
     met
 }
@@ -1127,7 +1192,7 @@ fn sums(met: &[Met], part: fn(&Met) -> [u64; 4]) -> [u64; 4] {
     std::array::from_fn(|number| met.iter().map(|met| part(met)[number]).sum())
 }
 
-/// All nine profiles, with drains that are kept and drains that are not. In the last two runs a drain ends with no agent, which
+/// All eleven profiles, with drains that are kept and drains that are not. In the last run a drain ends with no agent, which
 /// is rare.
 #[test]
 fn handlings_of_runs_are_in_lines_digests_and_counts() {
@@ -1135,7 +1200,7 @@ fn handlings_of_runs_are_in_lines_digests_and_counts() {
         let (profile, generator) = (Profile::of_seed(seed), Generator::new(seed));
         carry_out(random_run, seed, profile, generator, run_cluster(seed))
     };
-    let met: Vec<Met> = (1..=36).chain([698, 851]).map(carry_out).collect();
+    let met: Vec<Met> = (1..=36).chain([698]).map(carry_out).collect();
     assert!(sums(&met, |met| met.deliveries).iter().all(|&n| n > 0));
     let drains = sums(&met, |met| met.drains);
     // A RELEASE that is sent back has to come again, so that no drain ends with one.
@@ -1150,15 +1215,15 @@ fn handlings_of_hand_made_states_are_in_lines_digests_and_counts() {
         let cluster = hand_made_cluster(seed, &mut generator);
         carry_out(random_state, seed, HAND_MADE, generator, cluster)
     };
-    let met: Vec<Met> = (1..=400).chain([2_304]).map(carry_out).collect();
+    let met: Vec<Met> = (1..=400).map(carry_out).collect();
     assert!(sums(&met, |met| met.deliveries).iter().all(|&n| n > 0));
     let drains = sums(&met, |met| met.drains);
-    assert_eq!(drains.map(|n| n > 0), [true, true, false, true]);
+    assert_eq!(drains.map(|n| n > 0), [true, false, false, true]);
     assert!(met.iter().any(|met| met.refused_after_one > 0));
 }
 
 /// What the papers say of the records of a transcript, by kind, and of the whole.
-fn met_by_transcript(bytes: &[u8], met: &mut [[u64; 4]; 7]) -> Handling {
+fn met_by_transcript(bytes: &[u8], met: &mut [[u64; 4]; 9]) -> Handling {
     let mut cluster = Cluster::new();
     let mut last = Handling::None;
     // A transcript that is too long is not run.
@@ -1184,7 +1249,7 @@ fn met_by_transcript(bytes: &[u8], met: &mut [[u64; 4]; 7]) -> Handling {
 fn handlings_of_transcripts_are_counted() {
     let mut nowhere = std::io::sink();
     let mut report = Report::new(&mut nowhere, false);
-    let mut met = [[0; 4]; 7];
+    let mut met = [[0; 4]; 9];
     for seed in 1..=48 {
         let bytes = transcript_bytes(seed);
         let last = met_by_transcript(&bytes, &mut met);

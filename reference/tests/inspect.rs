@@ -8,7 +8,7 @@ use reference::inspect::inspect;
 use std::io::Write;
 use std::process::{Command, Stdio};
 
-const IDLE: &str = r#"{"status":"idle","mode":null,"reason":null}"#;
+const IDLE: &str = r#"{"status":"idle","mode":null,"lost":false,"reason":null}"#;
 
 const REST: &str = concat!(
     r#"{"lock":1,"answer":0,"count":0,"handling":null},{"lock":2,"answer":0,"count":0,"handling":null},"#,
@@ -28,7 +28,7 @@ const TAKE_LINES: &str = r#"
 {"n":1,"kind":"acquire","lock":0,"machine":0,"task":0,"mode":3,"answer":0,"named":null,"handling":null,"preference":0,"state":{
  "decider":{"mode":0,"machine":null,"incarnation":0,"writer":false},
  "agents":[null,null,null,null],
- "clients":[{"status":"waiting","mode":3,
+ "clients":[{"status":"waiting","mode":3,"lost":false,
  "reason":{"kind":"ACQUIRE","index":0,"machine":null,"ahead":null}},IDLE,IDLE,IDLE,
  IDLE,IDLE,IDLE,IDLE,IDLE,IDLE,IDLE,IDLE,IDLE,IDLE,IDLE,IDLE],
  "wire":[{"kind":"ACQUIRE","to":null,"client":0,"mode":3,
@@ -37,7 +37,7 @@ const TAKE_LINES: &str = r#"
 {"n":2,"kind":"deliver","lock":0,"index":0,"answer":0,"handling":null,"preference":0,"state":{
  "decider":{"mode":3,"machine":0,"incarnation":0,"writer":false},
  "agents":[null,null,null,null],
- "clients":[{"status":"waiting","mode":3,
+ "clients":[{"status":"waiting","mode":3,"lost":false,
  "reason":{"kind":"GRANT","index":0,"machine":null,"ahead":null}},IDLE,IDLE,IDLE,
  IDLE,IDLE,IDLE,IDLE,IDLE,IDLE,IDLE,IDLE,IDLE,IDLE,IDLE,IDLE],
  "wire":[{"kind":"GRANT","to":0,"client":0,"mode":3,
@@ -47,7 +47,7 @@ const TAKE_LINES: &str = r#"
 {"n":3,"kind":"deliver","lock":0,"index":0,"answer":0,"handling":null,"preference":0,"state":{
  "decider":{"mode":3,"machine":0,"incarnation":0,"writer":false},
  "agents":[{"mode":3,"holders":[0],"queue":[],"incarnation":0},null,null,null],
- "clients":[{"status":"holding","mode":3,"reason":null},IDLE,IDLE,IDLE,
+ "clients":[{"status":"holding","mode":3,"lost":false,"reason":null},IDLE,IDLE,IDLE,
  IDLE,IDLE,IDLE,IDLE,IDLE,IDLE,IDLE,IDLE,IDLE,IDLE,IDLE,IDLE],
  "wire":[]},
  "counts":{"agents":1,"marked":0}}
@@ -63,8 +63,8 @@ const SHARE_LINES: &str = r#"
 {"n":4,"kind":"acquire","lock":0,"machine":1,"task":0,"mode":3,"answer":0,"named":null,"handling":null,"preference":0,"state":{
  "decider":{"mode":3,"machine":0,"incarnation":0,"writer":false},
  "agents":[{"mode":3,"holders":[0],"queue":[],"incarnation":0},null,null,null],
- "clients":[{"status":"holding","mode":3,"reason":null},IDLE,IDLE,IDLE,
- {"status":"waiting","mode":3,
+ "clients":[{"status":"holding","mode":3,"lost":false,"reason":null},IDLE,IDLE,IDLE,
+ {"status":"waiting","mode":3,"lost":false,
  "reason":{"kind":"ACQUIRE","index":0,"machine":null,"ahead":null}},IDLE,IDLE,IDLE,
  IDLE,IDLE,IDLE,IDLE,IDLE,IDLE,IDLE,IDLE],
  "wire":[{"kind":"ACQUIRE","to":null,"client":4,"mode":3,
@@ -73,8 +73,8 @@ const SHARE_LINES: &str = r#"
 {"n":5,"kind":"deliver","lock":0,"index":0,"answer":0,"handling":null,"preference":0,"state":{
  "decider":{"mode":3,"machine":0,"incarnation":1,"writer":false},
  "agents":[{"mode":3,"holders":[0],"queue":[],"incarnation":0},null,null,null],
- "clients":[{"status":"holding","mode":3,"reason":null},IDLE,IDLE,IDLE,
- {"status":"waiting","mode":3,
+ "clients":[{"status":"holding","mode":3,"lost":false,"reason":null},IDLE,IDLE,IDLE,
+ {"status":"waiting","mode":3,"lost":false,
  "reason":{"kind":"GRANT","index":0,"machine":null,"ahead":null}},IDLE,IDLE,IDLE,
  IDLE,IDLE,IDLE,IDLE,IDLE,IDLE,IDLE,IDLE],
  "wire":[{"kind":"GRANT","to":1,"client":4,"mode":3,
@@ -129,16 +129,16 @@ fn a_line_in_full() {
         r#"{"n":1,"kind":"acquire","lock":5,"machine":3,"task":2,"mode":2,"answer":0,"named":null,"#,
         r#""handling":null,"preference":0,"state":{"decider":{"mode":0,"machine":null,"incarnation":0,"writer":false},"#,
         r#""agents":[null,null,null,null],"clients":["#,
-        r#"{"status":"idle","mode":null,"reason":null},{"status":"idle","mode":null,"reason":null},"#,
-        r#"{"status":"idle","mode":null,"reason":null},{"status":"idle","mode":null,"reason":null},"#,
-        r#"{"status":"idle","mode":null,"reason":null},{"status":"idle","mode":null,"reason":null},"#,
-        r#"{"status":"idle","mode":null,"reason":null},{"status":"idle","mode":null,"reason":null},"#,
-        r#"{"status":"idle","mode":null,"reason":null},{"status":"idle","mode":null,"reason":null},"#,
-        r#"{"status":"idle","mode":null,"reason":null},{"status":"idle","mode":null,"reason":null},"#,
-        r#"{"status":"idle","mode":null,"reason":null},{"status":"idle","mode":null,"reason":null},"#,
-        r#"{"status":"waiting","mode":2,"#,
+        r#"{"status":"idle","mode":null,"lost":false,"reason":null},{"status":"idle","mode":null,"lost":false,"reason":null},"#,
+        r#"{"status":"idle","mode":null,"lost":false,"reason":null},{"status":"idle","mode":null,"lost":false,"reason":null},"#,
+        r#"{"status":"idle","mode":null,"lost":false,"reason":null},{"status":"idle","mode":null,"lost":false,"reason":null},"#,
+        r#"{"status":"idle","mode":null,"lost":false,"reason":null},{"status":"idle","mode":null,"lost":false,"reason":null},"#,
+        r#"{"status":"idle","mode":null,"lost":false,"reason":null},{"status":"idle","mode":null,"lost":false,"reason":null},"#,
+        r#"{"status":"idle","mode":null,"lost":false,"reason":null},{"status":"idle","mode":null,"lost":false,"reason":null},"#,
+        r#"{"status":"idle","mode":null,"lost":false,"reason":null},{"status":"idle","mode":null,"lost":false,"reason":null},"#,
+        r#"{"status":"waiting","mode":2,"lost":false,"#,
         r#""reason":{"kind":"ACQUIRE","index":0,"machine":null,"ahead":null}},"#,
-        r#"{"status":"idle","mode":null,"reason":null}],"#,
+        r#"{"status":"idle","mode":null,"lost":false,"reason":null}],"#,
         r#""wire":[{"kind":"ACQUIRE","to":null,"client":14,"mode":2,"#,
         r#""granted":false,"rejected":false,"circled":0,"agent":null}]},"#,
         r#""counts":{"agents":0,"marked":0}}"#,
@@ -209,7 +209,7 @@ const EARLY_FREE_LINES: &str = r#"
 {"n":6,"kind":"release","lock":0,"machine":0,"task":0,"answer":0,"handling":null,"preference":0,"state":{
  "decider":{"mode":3,"machine":0,"incarnation":1,"writer":false},
  "agents":[null,null,null,null],
- "clients":[IDLE,IDLE,IDLE,IDLE,{"status":"waiting","mode":3,
+ "clients":[IDLE,IDLE,IDLE,IDLE,{"status":"waiting","mode":3,"lost":false,
  "reason":{"kind":"GRANT","index":0,"machine":null,"ahead":null}},IDLE,IDLE,IDLE,
  IDLE,IDLE,IDLE,IDLE,IDLE,IDLE,IDLE,IDLE],
  "wire":[{"kind":"GRANT","to":1,"client":4,"mode":3,
@@ -223,7 +223,7 @@ const EARLY_FREE_LINES: &str = r#"
 {"n":7,"kind":"deliver","lock":0,"index":2,"answer":0,"handling":null,"preference":0,"state":{
  "decider":{"mode":3,"machine":0,"incarnation":1,"writer":false},
  "agents":[null,null,null,null],
- "clients":[IDLE,IDLE,IDLE,IDLE,{"status":"waiting","mode":3,
+ "clients":[IDLE,IDLE,IDLE,IDLE,{"status":"waiting","mode":3,"lost":false,
  "reason":{"kind":"GRANT","index":0,"machine":null,"ahead":null}},IDLE,IDLE,IDLE,
  IDLE,IDLE,IDLE,IDLE,IDLE,IDLE,IDLE,IDLE],
  "wire":[{"kind":"GRANT","to":1,"client":4,"mode":3,
@@ -255,8 +255,8 @@ const TWO_HOLDERS_LINES: &str = r#"
 {"n":6,"kind":"deliver","lock":0,"index":0,"answer":0,"handling":null,"preference":0,"state":{
  "decider":{"mode":3,"machine":0,"incarnation":1,"writer":false},
  "agents":[{"mode":3,"holders":[0],"queue":[],"incarnation":0},null,null,null],
- "clients":[{"status":"holding","mode":3,"reason":null},IDLE,IDLE,IDLE,
- {"status":"holding","mode":3,"reason":null},IDLE,IDLE,IDLE,
+ "clients":[{"status":"holding","mode":3,"lost":false,"reason":null},IDLE,IDLE,IDLE,
+ {"status":"holding","mode":3,"lost":false,"reason":null},IDLE,IDLE,IDLE,
  IDLE,IDLE,IDLE,IDLE,IDLE,IDLE,IDLE,IDLE],
  "wire":[{"kind":"ACQUIRE","to":0,"client":4,"mode":3,
  "granted":true,"rejected":false,"circled":0,"agent":null}]},
@@ -264,15 +264,15 @@ const TWO_HOLDERS_LINES: &str = r#"
 {"n":7,"kind":"deliver","lock":0,"index":0,"answer":0,"handling":"taken","preference":0,"state":{
  "decider":{"mode":3,"machine":0,"incarnation":1,"writer":false},
  "agents":[{"mode":3,"holders":[0,4],"queue":[],"incarnation":1},null,null,null],
- "clients":[{"status":"holding","mode":3,"reason":null},IDLE,IDLE,IDLE,
- {"status":"holding","mode":3,"reason":null},IDLE,IDLE,IDLE,
+ "clients":[{"status":"holding","mode":3,"lost":false,"reason":null},IDLE,IDLE,IDLE,
+ {"status":"holding","mode":3,"lost":false,"reason":null},IDLE,IDLE,IDLE,
  IDLE,IDLE,IDLE,IDLE,IDLE,IDLE,IDLE,IDLE],
  "wire":[]},
  "counts":{"agents":1,"marked":0}}
 {"n":8,"kind":"release","lock":0,"machine":1,"task":0,"answer":0,"handling":null,"preference":0,"state":{
  "decider":{"mode":3,"machine":0,"incarnation":1,"writer":false},
  "agents":[{"mode":3,"holders":[0,4],"queue":[],"incarnation":1},null,null,null],
- "clients":[{"status":"holding","mode":3,"reason":null},IDLE,IDLE,IDLE,IDLE,IDLE,IDLE,IDLE,
+ "clients":[{"status":"holding","mode":3,"lost":false,"reason":null},IDLE,IDLE,IDLE,IDLE,IDLE,IDLE,IDLE,
  IDLE,IDLE,IDLE,IDLE,IDLE,IDLE,IDLE,IDLE],
  "wire":[{"kind":"RELEASE","to":null,"client":4,"mode":null,
  "granted":false,"rejected":false,"circled":0,"agent":null}]},
@@ -297,9 +297,9 @@ const REJECTED_GRANT_LINES: &str = r#"
 {"n":10,"kind":"deliver","lock":0,"index":2,"answer":0,"handling":null,"preference":0,"state":{
  "decider":{"mode":3,"machine":0,"incarnation":1,"writer":false},
  "agents":[null,null,null,null],
- "clients":[IDLE,IDLE,IDLE,IDLE,{"status":"waiting","mode":3,
+ "clients":[IDLE,IDLE,IDLE,IDLE,{"status":"waiting","mode":3,"lost":false,
  "reason":{"kind":"GRANT","index":0,"machine":null,"ahead":null}},IDLE,IDLE,IDLE,
- {"status":"waiting","mode":2,
+ {"status":"waiting","mode":2,"lost":false,
  "reason":{"kind":"rejected GRANT","index":2,"machine":null,"ahead":null}},IDLE,IDLE,IDLE,IDLE,IDLE,IDLE,IDLE],
  "wire":[{"kind":"GRANT","to":1,"client":4,"mode":3,
  "granted":false,"rejected":false,"circled":0,"agent":null},
@@ -313,9 +313,9 @@ const REJECTED_GRANT_LINES: &str = r#"
  "decider":{"mode":3,"machine":0,"incarnation":1,"writer":false},
  "agents":[{"mode":3,"holders":[],"queue":[{"client":8,"mode":2}],"incarnation":0},
  null,null,null],
- "clients":[IDLE,IDLE,IDLE,IDLE,{"status":"waiting","mode":3,
+ "clients":[IDLE,IDLE,IDLE,IDLE,{"status":"waiting","mode":3,"lost":false,
  "reason":{"kind":"GRANT","index":0,"machine":null,"ahead":null}},IDLE,IDLE,IDLE,
- {"status":"waiting","mode":2,
+ {"status":"waiting","mode":2,"lost":false,
  "reason":{"kind":"queue","index":null,"machine":0,"ahead":0}},IDLE,IDLE,IDLE,IDLE,IDLE,IDLE,IDLE],
  "wire":[{"kind":"GRANT","to":1,"client":4,"mode":3,
  "granted":false,"rejected":false,"circled":0,"agent":null},
@@ -348,9 +348,9 @@ const QUEUE_LINES: &str = r#"
  "decider":{"mode":2,"machine":0,"incarnation":0,"writer":false},
  "agents":[{"mode":2,"holders":[0],
  "queue":[{"client":1,"mode":3},{"client":8,"mode":2}],"incarnation":0},null,null,null],
- "clients":[{"status":"holding","mode":2,"reason":null},{"status":"waiting","mode":3,
+ "clients":[{"status":"holding","mode":2,"lost":false,"reason":null},{"status":"waiting","mode":3,"lost":false,
  "reason":{"kind":"queue","index":null,"machine":0,"ahead":0}},IDLE,IDLE,
- IDLE,IDLE,IDLE,IDLE,{"status":"waiting","mode":2,
+ IDLE,IDLE,IDLE,IDLE,{"status":"waiting","mode":2,"lost":false,
  "reason":{"kind":"queue","index":null,"machine":0,"ahead":1}},IDLE,IDLE,IDLE,
  IDLE,IDLE,IDLE,IDLE],
  "wire":[]},
@@ -358,9 +358,9 @@ const QUEUE_LINES: &str = r#"
 {"n":8,"kind":"release","lock":0,"machine":0,"task":0,"answer":0,"handling":null,"preference":0,"state":{
  "decider":{"mode":2,"machine":0,"incarnation":0,"writer":false},
  "agents":[null,null,null,null],
- "clients":[IDLE,{"status":"waiting","mode":3,
+ "clients":[IDLE,{"status":"waiting","mode":3,"lost":false,
  "reason":{"kind":"GRANT","index":0,"machine":null,"ahead":null}},IDLE,IDLE,
- IDLE,IDLE,IDLE,IDLE,{"status":"waiting","mode":2,
+ IDLE,IDLE,IDLE,IDLE,{"status":"waiting","mode":2,"lost":false,
  "reason":{"kind":"queue","index":0,"machine":null,"ahead":0}},IDLE,IDLE,IDLE,
  IDLE,IDLE,IDLE,IDLE],
  "wire":[{"kind":"GRANT","to":null,"client":1,"mode":3,
@@ -394,16 +394,16 @@ const AWAY_FROM_ZERO_LINES: &str = r#"
  "decider":{"mode":2,"machine":3,"incarnation":0,"writer":false},
  "agents":[null,null,null,null],
  "clients":[IDLE,IDLE,IDLE,IDLE,
- {"status":"waiting","mode":3,
+ {"status":"waiting","mode":3,"lost":false,
  "reason":{"kind":"ACQUIRE","index":0,"machine":null,"ahead":null}},IDLE,IDLE,IDLE,
- {"status":"waiting","mode":2,
+ {"status":"waiting","mode":2,"lost":false,
  "reason":{"kind":"ACQUIRE","index":1,"machine":null,"ahead":null}},IDLE,IDLE,IDLE,
  IDLE,
- {"status":"waiting","mode":2,
+ {"status":"waiting","mode":2,"lost":false,
  "reason":{"kind":"GRANT","index":2,"machine":null,"ahead":null}},
- {"status":"waiting","mode":3,
+ {"status":"waiting","mode":3,"lost":false,
  "reason":{"kind":"queue","index":2,"machine":null,"ahead":0}},
- {"status":"waiting","mode":2,
+ {"status":"waiting","mode":2,"lost":false,
  "reason":{"kind":"queue","index":2,"machine":null,"ahead":1}}],
  "wire":[{"kind":"ACQUIRE","to":null,"client":4,"mode":3,
  "granted":false,"rejected":false,"circled":0,"agent":null},
@@ -441,7 +441,8 @@ fn reasons_away_from_zero() {
     let before = text.lines().nth(7).expect("nine records");
     for (mode, ahead) in [(2, 0), (3, 1), (2, 2)] {
         let reason = format!(r#"{{"kind":"queue","index":null,"machine":3,"ahead":{ahead}}}"#);
-        let client = format!(r#"{{"status":"waiting","mode":{mode},"reason":{reason}}}"#);
+        let client =
+            format!(r#"{{"status":"waiting","mode":{mode},"lost":false,"reason":{reason}}}"#);
         assert!(before.contains(&client), "{before}");
     }
 }
@@ -466,7 +467,7 @@ const REFUSED_LINES: &str = r#"
 {"n":2,"kind":"acquire","lock":7,"machine":0,"task":0,"mode":2,"answer":5,"named":null,"handling":null,"preference":0,"state":{
  "decider":{"mode":0,"machine":null,"incarnation":0,"writer":false},
  "agents":[null,null,null,null],
- "clients":[{"status":"waiting","mode":3,
+ "clients":[{"status":"waiting","mode":3,"lost":false,
  "reason":{"kind":"ACQUIRE","index":0,"machine":null,"ahead":null}},IDLE,IDLE,IDLE,
  IDLE,IDLE,IDLE,IDLE,IDLE,IDLE,IDLE,IDLE,IDLE,IDLE,IDLE,IDLE],
  "wire":[{"kind":"ACQUIRE","to":null,"client":0,"mode":3,
@@ -475,7 +476,7 @@ const REFUSED_LINES: &str = r#"
 {"n":3,"kind":"release","lock":7,"machine":4,"task":9,"answer":2,"handling":null,"preference":0,"state":{
  "decider":{"mode":0,"machine":null,"incarnation":0,"writer":false},
  "agents":[null,null,null,null],
- "clients":[{"status":"waiting","mode":3,
+ "clients":[{"status":"waiting","mode":3,"lost":false,
  "reason":{"kind":"ACQUIRE","index":0,"machine":null,"ahead":null}},IDLE,IDLE,IDLE,
  IDLE,IDLE,IDLE,IDLE,IDLE,IDLE,IDLE,IDLE,IDLE,IDLE,IDLE,IDLE],
  "wire":[{"kind":"ACQUIRE","to":null,"client":0,"mode":3,
@@ -608,7 +609,7 @@ const STILL_NAMED_LINES: &str = r#"
 {"n":10,"kind":"acquire","lock":0,"machine":1,"task":0,"mode":3,"answer":6,"named":0,"handling":null,"preference":0,"state":{
  "decider":{"mode":3,"machine":0,"incarnation":1,"writer":false},
  "agents":[{"mode":3,"holders":[0],"queue":[],"incarnation":0},null,null,null],
- "clients":[{"status":"holding","mode":3,"reason":null},IDLE,IDLE,IDLE,
+ "clients":[{"status":"holding","mode":3,"lost":false,"reason":null},IDLE,IDLE,IDLE,
  IDLE,IDLE,IDLE,IDLE,IDLE,IDLE,IDLE,IDLE,IDLE,IDLE,IDLE,IDLE],
  "wire":[{"kind":"ACQUIRE","to":0,"client":4,"mode":3,
  "granted":true,"rejected":false,"circled":0,"agent":null},
@@ -743,9 +744,9 @@ const CIRCLED_LINES: &str = r#"
 {"n":5,"kind":"deliver","lock":0,"index":1,"answer":0,"handling":"no agent","preference":0,"state":{
  "decider":{"mode":2,"machine":0,"incarnation":0,"writer":false},
  "agents":[null,null,null,null],
- "clients":[{"status":"waiting","mode":2,
+ "clients":[{"status":"waiting","mode":2,"lost":false,
  "reason":{"kind":"GRANT","index":0,"machine":null,"ahead":null}},IDLE,IDLE,IDLE,
- {"status":"waiting","mode":2,
+ {"status":"waiting","mode":2,"lost":false,
  "reason":{"kind":"ACQUIRE","index":1,"machine":null,"ahead":null}},IDLE,IDLE,IDLE,
  IDLE,IDLE,IDLE,IDLE,IDLE,IDLE,IDLE,IDLE],
  "wire":[{"kind":"GRANT","to":0,"client":0,"mode":2,
@@ -858,8 +859,8 @@ const BEHIND_LINES: &str = r#"
 {"n":4,"kind":"acquire","lock":0,"machine":1,"task":0,"mode":2,"answer":0,"named":null,"handling":null,"preference":1,"state":{
  "decider":{"mode":3,"machine":0,"incarnation":0,"writer":false},
  "agents":[{"mode":3,"holders":[0],"queue":[],"incarnation":0},null,null,null],
- "clients":[{"status":"holding","mode":3,"reason":null},IDLE,IDLE,IDLE,
- {"status":"waiting","mode":2,
+ "clients":[{"status":"holding","mode":3,"lost":false,"reason":null},IDLE,IDLE,IDLE,
+ {"status":"waiting","mode":2,"lost":false,
  "reason":{"kind":"ACQUIRE","index":0,"machine":null,"ahead":null}},IDLE,IDLE,IDLE,
  IDLE,IDLE,IDLE,IDLE,IDLE,IDLE,IDLE,IDLE],
  "wire":[{"kind":"ACQUIRE","to":null,"client":4,"mode":2,
@@ -868,8 +869,8 @@ const BEHIND_LINES: &str = r#"
 {"n":5,"kind":"deliver","lock":0,"index":0,"answer":0,"handling":null,"preference":1,"state":{
  "decider":{"mode":3,"machine":0,"incarnation":0,"writer":true},
  "agents":[{"mode":3,"holders":[0],"queue":[],"incarnation":0},null,null,null],
- "clients":[{"status":"holding","mode":3,"reason":null},IDLE,IDLE,IDLE,
- {"status":"waiting","mode":2,
+ "clients":[{"status":"holding","mode":3,"lost":false,"reason":null},IDLE,IDLE,IDLE,
+ {"status":"waiting","mode":2,"lost":false,
  "reason":{"kind":"ACQUIRE","index":0,"machine":null,"ahead":null}},IDLE,IDLE,IDLE,
  IDLE,IDLE,IDLE,IDLE,IDLE,IDLE,IDLE,IDLE],
  "wire":[{"kind":"ACQUIRE","to":0,"client":4,"mode":2,
@@ -879,8 +880,8 @@ const BEHIND_LINES: &str = r#"
  "decider":{"mode":3,"machine":0,"incarnation":0,"writer":true},
  "agents":[{"mode":3,"holders":[0],"queue":[{"client":4,"mode":2}],"incarnation":0},
  null,null,null],
- "clients":[{"status":"holding","mode":3,"reason":null},IDLE,IDLE,IDLE,
- {"status":"waiting","mode":2,
+ "clients":[{"status":"holding","mode":3,"lost":false,"reason":null},IDLE,IDLE,IDLE,
+ {"status":"waiting","mode":2,"lost":false,
  "reason":{"kind":"queue","index":null,"machine":0,"ahead":0}},IDLE,IDLE,IDLE,
  IDLE,IDLE,IDLE,IDLE,IDLE,IDLE,IDLE,IDLE],
  "wire":[]},
@@ -889,9 +890,9 @@ const BEHIND_LINES: &str = r#"
  "decider":{"mode":3,"machine":0,"incarnation":0,"writer":true},
  "agents":[{"mode":3,"holders":[0],
  "queue":[{"client":4,"mode":2},{"client":1,"mode":3}],"incarnation":0},null,null,null],
- "clients":[{"status":"holding","mode":3,"reason":null},{"status":"waiting","mode":3,
+ "clients":[{"status":"holding","mode":3,"lost":false,"reason":null},{"status":"waiting","mode":3,"lost":false,
  "reason":{"kind":"queue","index":null,"machine":0,"ahead":1}},IDLE,IDLE,
- {"status":"waiting","mode":2,
+ {"status":"waiting","mode":2,"lost":false,
  "reason":{"kind":"queue","index":null,"machine":0,"ahead":0}},IDLE,IDLE,IDLE,
  IDLE,IDLE,IDLE,IDLE,IDLE,IDLE,IDLE,IDLE],
  "wire":[]},
@@ -900,11 +901,11 @@ const BEHIND_LINES: &str = r#"
  "decider":{"mode":3,"machine":0,"incarnation":0,"writer":true},
  "agents":[{"mode":3,"holders":[0],
  "queue":[{"client":4,"mode":2},{"client":1,"mode":3}],"incarnation":0},null,null,null],
- "clients":[{"status":"holding","mode":3,"reason":null},{"status":"waiting","mode":3,
+ "clients":[{"status":"holding","mode":3,"lost":false,"reason":null},{"status":"waiting","mode":3,"lost":false,
  "reason":{"kind":"queue","index":null,"machine":0,"ahead":1}},IDLE,IDLE,
- {"status":"waiting","mode":2,
+ {"status":"waiting","mode":2,"lost":false,
  "reason":{"kind":"queue","index":null,"machine":0,"ahead":0}},IDLE,IDLE,IDLE,
- {"status":"waiting","mode":3,
+ {"status":"waiting","mode":3,"lost":false,
  "reason":{"kind":"ACQUIRE","index":0,"machine":null,"ahead":null}},IDLE,IDLE,IDLE,
  IDLE,IDLE,IDLE,IDLE],
  "wire":[{"kind":"ACQUIRE","to":null,"client":8,"mode":3,
@@ -914,11 +915,11 @@ const BEHIND_LINES: &str = r#"
  "decider":{"mode":3,"machine":0,"incarnation":0,"writer":true},
  "agents":[{"mode":3,"holders":[0],
  "queue":[{"client":4,"mode":2},{"client":1,"mode":3}],"incarnation":0},null,null,null],
- "clients":[{"status":"holding","mode":3,"reason":null},{"status":"waiting","mode":3,
+ "clients":[{"status":"holding","mode":3,"lost":false,"reason":null},{"status":"waiting","mode":3,"lost":false,
  "reason":{"kind":"queue","index":null,"machine":0,"ahead":1}},IDLE,IDLE,
- {"status":"waiting","mode":2,
+ {"status":"waiting","mode":2,"lost":false,
  "reason":{"kind":"queue","index":null,"machine":0,"ahead":0}},IDLE,IDLE,IDLE,
- {"status":"waiting","mode":3,
+ {"status":"waiting","mode":3,"lost":false,
  "reason":{"kind":"ACQUIRE","index":0,"machine":null,"ahead":null}},IDLE,IDLE,IDLE,
  IDLE,IDLE,IDLE,IDLE],
  "wire":[{"kind":"ACQUIRE","to":0,"client":8,"mode":3,
@@ -952,11 +953,11 @@ fn readers_preference_of_the_same_transcript() {
  "decider":{"mode":3,"machine":0,"incarnation":1,"writer":false},
  "agents":[{"mode":3,"holders":[0,1],"queue":[{"client":4,"mode":2}],"incarnation":0},
  null,null,null],
- "clients":[{"status":"holding","mode":3,"reason":null},
- {"status":"holding","mode":3,"reason":null},IDLE,IDLE,
- {"status":"waiting","mode":2,
+ "clients":[{"status":"holding","mode":3,"lost":false,"reason":null},
+ {"status":"holding","mode":3,"lost":false,"reason":null},IDLE,IDLE,
+ {"status":"waiting","mode":2,"lost":false,
  "reason":{"kind":"queue","index":null,"machine":0,"ahead":0}},IDLE,IDLE,IDLE,
- {"status":"waiting","mode":3,
+ {"status":"waiting","mode":3,"lost":false,
  "reason":{"kind":"GRANT","index":0,"machine":null,"ahead":null}},IDLE,IDLE,IDLE,
  IDLE,IDLE,IDLE,IDLE],
  "wire":[{"kind":"GRANT","to":2,"client":8,"mode":3,
@@ -1070,4 +1071,62 @@ fn program_takes_the_preference() {
     }
     assert_same(&written_by_program(&["2", "1"], &bytes), &bad);
     assert_same(&written_by_program(&["2"], &overlong()), &bad);
+}
+
+/// D2; then the GRANT of 1/0 is lost, at first with the wrong index, and 1/0 gives up.
+const LOSE_AND_GIVE_UP: [u8; 32] = [
+    6, 0, 6, 0, 0, 1, //
+    6, 0, 6, 0, 0, 0, //
+    7, 0, 7, 0, 0, 1, 0, //
+    7, 0, 7, 0, 0, 1, 0, //
+    6, 0, 6, 0, 9, 7,
+];
+
+/// The drain after it: the marked ACQUIRE is taken, the RELEASE goes on and is taken, 0/0 hands back, the FREE.
+const LOSE_AND_GIVE_UP_LINES: &str = r#"
+{"n":6,"kind":"lose","lock":0,"index":1,"answer":18,"handling":null,"preference":0,"state":{
+ "decider":{"mode":3,"machine":0,"incarnation":1,"writer":false},
+ "agents":[{"mode":3,"holders":[0],"queue":[],"incarnation":0},null,null,null],
+ "clients":[{"status":"holding","mode":3,"lost":false,"reason":null},IDLE,IDLE,IDLE,
+ {"status":"waiting","mode":3,"lost":false,
+ "reason":{"kind":"GRANT","index":0,"machine":null,"ahead":null}},IDLE,IDLE,IDLE,
+ IDLE,IDLE,IDLE,IDLE,IDLE,IDLE,IDLE,IDLE],
+ "wire":[{"kind":"GRANT","to":1,"client":4,"mode":3,
+ "granted":false,"rejected":false,"circled":0,"agent":null},
+ {"kind":"ACQUIRE","to":0,"client":4,"mode":3,
+ "granted":true,"rejected":false,"circled":0,"agent":null}]},
+ "counts":{"agents":1,"marked":1}}
+{"n":7,"kind":"lose","lock":0,"index":0,"answer":0,"handling":null,"preference":0,"state":{
+ "decider":{"mode":3,"machine":0,"incarnation":1,"writer":false},
+ "agents":[{"mode":3,"holders":[0],"queue":[],"incarnation":0},null,null,null],
+ "clients":[{"status":"holding","mode":3,"lost":false,"reason":null},IDLE,IDLE,IDLE,
+ {"status":"waiting","mode":3,"lost":true,
+ "reason":{"kind":"grant lost","index":null,"machine":null,"ahead":null}},IDLE,IDLE,IDLE,
+ IDLE,IDLE,IDLE,IDLE,IDLE,IDLE,IDLE,IDLE],
+ "wire":[{"kind":"ACQUIRE","to":0,"client":4,"mode":3,
+ "granted":true,"rejected":false,"circled":0,"agent":null}]},
+ "counts":{"agents":1,"marked":1}}
+{"n":8,"kind":"give up","lock":0,"machine":1,"task":0,"answer":0,"handling":null,"preference":0,"state":GIVEN_UP
+{"n":9,"kind":"give up","lock":0,"machine":1,"task":0,"answer":17,"handling":null,"preference":0,"state":GIVEN_UP
+{"n":10,"kind":"lose","lock":9,"index":7,"answer":1,"handling":null,"preference":0,"state":null,"counts":null}
+{"end":"end","answer":0,"records":10,"handling":null,"preference":0,"drains":[
+ {"lock":0,"answer":0,"count":5,"handling":"taken"},REST]}
+"#;
+
+const GIVEN_UP: &str = r#"{
+ "decider":{"mode":3,"machine":0,"incarnation":1,"writer":false},
+ "agents":[{"mode":3,"holders":[0],"queue":[],"incarnation":0},null,null,null],
+ "clients":[{"status":"holding","mode":3,"lost":false,"reason":null},IDLE,IDLE,IDLE,
+ IDLE,IDLE,IDLE,IDLE,IDLE,IDLE,IDLE,IDLE,IDLE,IDLE,IDLE,IDLE],
+ "wire":[{"kind":"ACQUIRE","to":0,"client":4,"mode":3,
+ "granted":true,"rejected":false,"circled":0,"agent":null},
+ {"kind":"RELEASE","to":null,"client":4,"mode":null,
+ "granted":false,"rejected":false,"circled":0,"agent":null}]},
+ "counts":{"agents":1,"marked":1}}"#;
+
+#[test]
+fn lost_grant_and_giving_up() {
+    let bytes = [&TAKE[..], &SHARE, &LOSE_AND_GIVE_UP].concat();
+    let lines = LOSE_AND_GIVE_UP_LINES.replace("GIVEN_UP", GIVEN_UP);
+    assert_lines(&bytes, &[TAKE_LINES, SHARE_LINES, &lines]);
 }

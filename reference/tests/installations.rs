@@ -6,15 +6,14 @@ use common::*;
 use reference::generator::Generator;
 use reference::installations::Installation;
 use reference::model::{
-    Address, Agent, ClientId, ClientStatus, Cluster, LockId, LockState, MachineId, Message, Mode,
-    Packet, TaskId,
+    Address, Agent, ClientId, ClientStatus, Cluster, LockId, LockState, Message, Mode, Packet,
 };
-use reference::random_calls::{Profile, DELIVER, HAND_MADE};
+use reference::random_calls::{Call, Profile, DELIVER, HAND_MADE};
 use reference::random_runs::random_run;
 use reference::random_states::{hand_made_cluster, random_state};
 use reference::random_transcripts::{random_transcript, transcript_bytes};
 use reference::report::Tally;
-use reference::transcript::{Record, Records};
+use reference::transcript::Records;
 use reference::{Handling, Outcome, DRAIN_LIMIT};
 
 const X: Mode = Mode::Exclusive;
@@ -450,22 +449,20 @@ impl Met {
     }
 
     /// Makes the steps of a drain on a copy, up to the last one that is accepted.
-    fn drain(&mut self, cluster: &Cluster, lock: LockId) {
+    fn drain(&mut self, cluster: &Cluster, call: Call) {
         let mut cluster = cluster.clone();
         for _ in 0..DRAIN_LIMIT {
-            let Some(state) = cluster.locks.get(lock.index()) else {
-                return;
-            };
-            let holding =
-                |&c: &u8| matches!(state.clients[usize::from(c)], ClientStatus::Holding(_));
-            let outcome = match (state.wire.is_empty(), (0..16).find(holding)) {
-                (false, _) => self.deliver(&mut cluster, lock, 0),
-                (true, Some(c)) => cluster.release(lock, MachineId(c / 4), TaskId(c % 4)),
-                (true, None) => return,
-            };
-            if outcome.is_err() {
-                return;
+            match drain_step(&cluster, call) {
+                Some(step) if self.perform(&mut cluster, step).is_ok() => (),
+                _ => return,
             }
+        }
+    }
+
+    fn perform(&mut self, cluster: &mut Cluster, call: Call) -> Outcome {
+        match call.kind {
+            DELIVER => self.deliver(cluster, call.lock, call.index),
+            _ => call.perform(cluster).map(|_| ()),
         }
     }
 }
@@ -478,15 +475,12 @@ fn met_by_run(seed: u64, profile: Profile, generator: Generator, cluster: Cluste
         let outputs = generator.eight();
         let call = profile.choose_call(seed, &outputs, &cluster);
         if outputs[0].is_multiple_of(64) {
-            drains.drain(&cluster, call.lock);
+            drains.drain(&cluster, call);
             if seed / 16 % 2 == 1 {
                 let _ = cluster.drain(call.lock);
             }
         }
-        let _ = match call.kind {
-            DELIVER => calls.deliver(&mut cluster, call.lock, call.index),
-            _ => call.perform(&mut cluster).map(|_| ()),
-        };
+        let _ = calls.perform(&mut cluster, call);
     }
     [calls, drains]
 }
@@ -498,10 +492,7 @@ fn met_by_transcript(seed: u64) -> Met {
     // A transcript that is too long is not run.
     let runs = bytes.len() <= 65_535;
     for record in Records::new(&bytes).map_while(Result::ok).filter(|_| runs) {
-        let _ = match record {
-            Record::Deliver(lock, index) => met.deliver(&mut cluster, lock, index),
-            _ => record.run(&mut cluster).map(|_| ()),
-        };
+        let _ = met.perform(&mut cluster, call_of(record));
     }
     met
 }
@@ -518,7 +509,7 @@ fn assert_all_tested(tally: &Tally, met: &[[Met; 2]]) {
     assert_eq!(Met::of(tally), calls.plus(drains));
 }
 
-/// All nine profiles, with drains that are kept and drains that are not.
+/// All eleven profiles, with drains that are kept and drains that are not.
 #[test]
 fn every_installation_of_a_run_is_tested() {
     let met = |seed| {

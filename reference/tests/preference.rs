@@ -419,7 +419,7 @@ fn reader_that_is_sent_on_needs_no_room() {
         decider_of(Some(S), false),
         to_decider(request(NAMED, S, false)),
     );
-    state.wire.resize(33, other(14));
+    state.wire.resize(49, other(14));
     for preference in BOTH {
         let found = delivered(preference, &state, 1);
         assert_eq!(found, (Err(Refusal::WireFull), state.clone()));
@@ -427,8 +427,8 @@ fn reader_that_is_sent_on_needs_no_room() {
     state.decider.writer_waits = true;
     let (outcome, after) = delivered(WRITERS, &state, 1);
     assert_eq!(outcome, Ok(Handling::None));
-    assert_eq!(after.wire.len(), 33);
-    assert_eq!(after.wire[32], plain(request(NAMED, S, false), to(OWNER)));
+    assert_eq!(after.wire.len(), 49);
+    assert_eq!(after.wire[48], plain(request(NAMED, S, false), to(OWNER)));
 }
 
 // At a machine.
@@ -1010,7 +1010,7 @@ fn transcript_keeps_the_preference() {
 /// Nobody holds beside a writer, and nobody is refused for want of a place, whoever is preferred.
 #[test]
 fn exclusion_holds_with_both_preferences() {
-    for seed in 1..=45 {
+    for seed in 1..=55 {
         for preference in BOTH {
             let (profile, mut generator) = (Profile::of_seed(seed), Generator::new(seed));
             let mut cluster = fresh(preference);
@@ -1354,7 +1354,7 @@ fn sum(met: &[[Met; 2]], part: usize) -> Met {
     parts.fold(Met::default(), Met::plus)
 }
 
-/// All nine profiles with each preference, with drains that are kept and drains that are not.
+/// All eleven profiles with each preference, with drains that are kept and drains that are not.
 #[test]
 fn every_request_behind_a_writer_in_a_run_is_tested() {
     let met = |seed| {
@@ -1392,10 +1392,10 @@ fn every_request_behind_a_writer_in_a_transcript_is_tested() {
     assert_eq!(Met::of(&tally_of(random_transcript, 1..=48)), met);
 }
 
-/// The bytes of a fresh cluster: for each lock four of the decider, four agent slots, sixteen clients and the wire's length.
+/// The bytes of a fresh cluster: for each lock four of the decider, four agent slots, two for each client and the wire's length.
 fn fresh_bytes(preference: u8) -> Vec<u8> {
     let mut bytes = vec![preference];
-    bytes.resize(1 + LOCKS * 25, 0);
+    bytes.resize(1 + LOCKS * 41, 0);
     bytes
 }
 
@@ -1413,7 +1413,7 @@ fn preference_and_bit_are_in_the_bytes_of_a_cluster() {
             incarnation: 9,
             writer_waits: true,
         };
-        bytes[1 + 2 * 25..][..4].copy_from_slice(&[3, 3, 9, 1]);
+        bytes[1 + 2 * 41..][..4].copy_from_slice(&[3, 3, 9, 1]);
         assert_eq!(cluster_digest(7, &cluster), digest_of(7, &bytes));
     }
 }
@@ -1425,7 +1425,7 @@ fn fresh_line() -> String {
         [vec![number, answer], fresh_bytes(preference)].concat()
     });
     let bytes: Vec<u8> = bytes.collect();
-    assert_eq!(bytes.len(), 256 * 203);
+    assert_eq!(bytes.len(), 256 * 331);
     format!("fresh digest {}", digest_of(0, &bytes))
 }
 
@@ -1434,26 +1434,26 @@ fn line_of_the_fresh_clusters() {
     let mut written = Vec::new();
     let mut report = Report::new(&mut written, false);
     fresh_clusters(&mut report).expect("a vector takes every write");
-    let mut expected = [0; 17];
+    let mut expected = [0; 19];
     (expected[0], expected[16]) = (2, 254);
     let [others @ .., fresh] = report.tally.answers;
     assert_eq!(fresh, expected);
-    assert!(others.into_iter().all(|answers| answers == [0; 17]));
+    assert!(others.into_iter().all(|answers| answers == [0; 19]));
     assert_eq!(written, format!("{}\n", fresh_line()).into_bytes());
 }
 
-/// Seeds 1 to 8 prefer readers, the next nine writers, and the nine after these readers again.
+/// Seeds 1 to 10 prefer readers, the next eleven writers, and the eleven after these readers again.
 #[test]
 fn runs_start_with_both_preferences() {
     let mut found = [false; 2];
-    for seed in 1..=26 {
+    for seed in 1..=32 {
         let mut written = Vec::new();
         let mut report = Report::new(&mut written, true);
         random_run(seed, &mut report).expect("nothing is broken");
         let text = String::from_utf8(written).expect("lines are text");
         let (profile, mut generator) = (Profile::of_seed(seed), Generator::new(seed));
         let mut cluster = run_cluster(seed);
-        let preference = if (9..18).contains(&seed) { 1 } else { 0 };
+        let preference = if (11..22).contains(&seed) { 1 } else { 0 };
         assert_eq!(cluster.preference, preference);
         found[usize::from(preference)] = true;
         // Up to the first drain the clusters of the lines are those of the calls.
@@ -1473,17 +1473,17 @@ fn runs_start_with_both_preferences() {
     assert_eq!(found, [true; 2]);
 }
 
-/// The fault f and its number v of each drawn lock. A lock has 4 draws in item 1, 3 of the decider, 38 for each machine, 16 for
-/// the clients and 44 for each packet.
+/// The fault f and its number v of each drawn lock. A lock has 4 draws in item 1, 3 of the decider, 38 for each machine, 2 for
+/// each client and 44 for each packet.
 fn faults_of(seed: u64) -> Vec<(u64, u8)> {
-    let lengths = [0, 0, 1, 1, 1, 2, 2, 2, 3, 3, 4, 5, 6, 31, 32, 33];
+    let lengths = [0, 0, 1, 1, 1, 2, 2, 2, 3, 3, 4, 5, 6, 47, 48, 49];
     let locks = 1 + seed / 8 % 2;
     let mut generator = Generator::new(seed);
     let mut draw_lock = || {
-        let (fault, value) = (generator.draw(16), generator.draw(239) as u8);
+        let (fault, value) = (generator.draw(17), generator.draw(239) as u8);
         let drawn = lengths[generator.draw(16) as usize];
-        let packets = if fault == 11 { 33 } else { drawn };
-        for _ in 0..1 + 3 + 4 * 38 + 16 + 44 * packets {
+        let packets = if fault == 11 { 49 } else { drawn };
+        for _ in 0..1 + 3 + 4 * 38 + 16 * 2 + 44 * packets {
             let _ = generator.output();
         }
         (fault, value)
@@ -1562,8 +1562,8 @@ fn program_counts_what_the_preference_did() {
     }
     assert_eq!(lines.next(), None);
     let zeros = "0, ".repeat(15);
-    assert!(text.contains(&format!("\nruns fresh [2, {zeros}254]\n")));
+    assert!(text.contains(&format!("\nruns fresh [2, {zeros}254, 0, 0]\n")));
     for part in ["states", "transcripts"] {
-        assert!(text.contains(&format!("\n{part} fresh [0, {zeros}0]\n")));
+        assert!(text.contains(&format!("\n{part} fresh [0, {zeros}0, 0, 0]\n")));
     }
 }

@@ -602,12 +602,13 @@ fn hand_made_run_is_not_tested() {
     assert_eq!(report.tally.tested_waits, 0);
 }
 
-/// One ask goes with each call, and every one that is answered 0 has one of the five reasons.
+/// One ask goes with each call, and every one that is answered 0 has one of the six reasons.
 #[test]
 fn asks_are_counted() {
-    let tally = tally_of(random_run, 1..=18);
+    let tally = tally_of(random_run, 1..=22);
     let total = |kind: usize| tally.answers[kind].iter().sum::<u64>();
-    assert_eq!(total(5), total(1) + total(2) + total(3));
+    let calls = [1, 2, 3, 6, 7].map(total);
+    assert_eq!(total(5), calls.iter().sum());
     assert_eq!(tally.reasons.iter().sum::<u64>(), tally.answers[5][0]);
     assert!(tally.reasons.iter().all(|&given| given > 0));
     assert!(tally.tested_waits > 0);
@@ -618,7 +619,7 @@ fn asks_are_counted() {
     assert_eq!(tally.tested_waits, 0);
     let tally = tally_of(random_transcript, 4..=7);
     assert!(tally.tested_waits > 0);
-    assert_eq!(tally.answers[5], [0; 17]);
+    assert_eq!(tally.answers[5], [0; 19]);
 }
 
 /// What the list of all reasons says must be given: the first by kind, then by index or machine.
@@ -721,10 +722,10 @@ fn expected_numbers(cluster: &Cluster, lock: LockId, machine: MachineId, task: T
     }
 }
 
-/// The first seeds have all nine profiles, with drains that are kept and drains that are not, and both preferences.
+/// The first seeds have all eleven profiles, with drains that are kept and drains that are not, and both preferences.
 #[test]
 fn asks_of_runs_are_in_lines_and_digests() {
-    for seed in (1..=9).chain([16, 17, 25, 31]) {
+    for seed in (1..=11).chain([16, 17, 25, 31]) {
         let (profile, generator) = (Profile::of_seed(seed), Generator::new(seed));
         assert_asks(random_run, seed, profile, generator, run_cluster(seed));
     }

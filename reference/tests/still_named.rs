@@ -285,9 +285,9 @@ fn others(length: usize) -> Vec<Packet> {
 
 #[test]
 fn first_of_two_is_given() {
-    for later in 0..33 {
+    for later in 0..49 {
         for earlier in 0..=later {
-            let mut packets = others(33);
+            let mut packets = others(49);
             packets[later] = plain(request(ASKED, S, true), to(0));
             packets[earlier] = release_of(ASKED);
             assert_first(&with_wire(&packets), ASKED.0, Some(earlier));
@@ -297,7 +297,7 @@ fn first_of_two_is_given() {
 
 #[test]
 fn only_one_is_given_wherever_it_is() {
-    for length in 1..=33 {
+    for length in 1..=49 {
         for index in 0..length {
             let mut packets = others(length);
             packets[index] = plain(grant(ASKED, S), to(1));
@@ -308,27 +308,27 @@ fn only_one_is_given_wherever_it_is() {
 
 #[test]
 fn none_is_given_where_no_packet_names_the_client() {
-    for length in 0..33 {
+    for length in 0..49 {
         assert_first(&with_wire(&others(length)), ASKED.0, None);
     }
 }
 
 #[test]
 fn first_of_many_is_given() {
-    let mut packets = others(33);
-    for index in (0..33).rev() {
+    let mut packets = others(49);
+    for index in (0..49).rev() {
         packets[index] = release_of(ASKED);
         assert_first(&with_wire(&packets), ASKED.0, Some(index));
     }
     assert_eq!(first(&with_wire(&packets), OTHER), None);
 }
 
-/// A hand-made wire that claims more than 33 packets has 33.
+/// A hand-made wire that claims more than 49 packets has 49.
 #[test]
 fn packets_beyond_33_are_not_searched() {
-    for length in [34, 35, 64, 255] {
+    for length in [50, 51, 64, 255] {
         let mut packets = others(length);
-        packets[33..].fill(release_of(ASKED));
+        packets[49..].fill(release_of(ASKED));
         let mut cluster = with_wire(&packets);
         assert_eq!(first(&cluster, ASKED), None);
         assert_eq!(acquire(&mut cluster, 1, 1, SHARED), 11);
@@ -363,7 +363,7 @@ fn earlier_causes_decide() {
 /// A full wire and a full queue are refused only where no packet names the client.
 #[test]
 fn refusals_9_and_10_come_behind_it() {
-    let mut cluster = with_wire(&others(33));
+    let mut cluster = with_wire(&others(49));
     assert_eq!(acquire(&mut cluster, 1, 1, SHARED), 10);
     cluster.locks[0].agents[1] = Some(agent_with_all());
     assert_eq!(acquire(&mut cluster, 1, 1, EXCLUSIVE), 9);
@@ -377,7 +377,7 @@ fn refusals_9_and_10_come_behind_it() {
 /// With a shared agent at home nothing is sent, so that a full wire is no hindrance; a packet of the client is.
 #[test]
 fn client_that_would_join_is_refused_too() {
-    let mut cluster = with_wire(&others(33));
+    let mut cluster = with_wire(&others(49));
     cluster.locks[0].agents[1] = Some(Agent::new(S));
     let mut named = cluster.clone();
     accepted(&[acquire(&mut cluster, 1, 1, SHARED)]);
@@ -403,7 +403,7 @@ fn search_and_list_agree_on_hand_made_states() {
         let well_formed = cluster.is_well_formed();
         let lock = (seed % 8) as u8;
         let state = &cluster.locks[usize::from(lock)];
-        overlong += u64::from(state.wire.len() > 33);
+        overlong += u64::from(state.wire.len() > 49);
         for number in 0..16 {
             let all = all_naming(state, ClientId(number));
             assert_eq!(state.first_naming(ClientId(number)), all.first().copied());
@@ -644,7 +644,7 @@ fn assert_all_met(met: Met) {
     assert!(refused > twice && twice > 0 && behind > 0, "{met:?}");
 }
 
-/// All nine profiles, with drains that are kept and drains that are not, and both preferences.
+/// All eleven profiles, with drains that are kept and drains that are not, and both preferences.
 #[test]
 fn every_acquire_of_a_run_is_tested_and_every_search_is_in_a_line() {
     let (mut met, mut searches) = ([0; 3], [0; 3]);
@@ -658,14 +658,14 @@ fn every_acquire_of_a_run_is_tested_and_every_search_is_in_a_line() {
     assert!(searches.iter().all(|&times| times > 0), "{searches:?}");
 }
 
-/// The wires of malformed states are searched too, those that claim more than 33 packets among them.
+/// The wires of malformed states are searched too, those that claim more than 49 packets among them.
 #[test]
 fn every_acquire_of_a_hand_made_state_is_tested_and_every_search_is_in_a_line() {
     let (mut met, mut searches, mut overlong) = ([0; 3], [0; 3], [0; 3]);
     for seed in 1..=1_000 {
         let mut generator = Generator::new(seed);
         let cluster = hand_made_cluster(seed, &mut generator);
-        let claims_more = cluster.locks.iter().any(|lock| lock.wire.len() > 33);
+        let claims_more = cluster.locks.iter().any(|lock| lock.wire.len() > 49);
         let found = carry_out(random_state, seed, HAND_MADE, generator, cluster);
         add(&mut met, found.0);
         let of_such = if claims_more {

@@ -13,14 +13,15 @@
 
 A line that begins with a blank goes on with the one before it. A STATE is written as in docs/inspect.md, with these shorter forms: whatever is as in a fresh
 lock, null, false, empty or 0 is left out; the decider is [MODE,MACHINE,INCARNATION], and [MODE,MACHINE,INCARNATION,true] where it knows that a writer waits;
-agents and clients are given by number, a client as [STATUS,MODE] and a waiter as [CLIENT,MODE]; a packet with "times" stands that often. The clients' reasons
-are put in from the rest of the state."""
+agents and clients are given by number, a client as [STATUS,MODE], and [STATUS,MODE,true] where it has the note that its GRANT was lost, and a waiter as
+[CLIENT,MODE]; a packet with "times" stands that often. The clients' reasons are put in from the rest of the state."""
 import json
 
 from desk.lines import FORMS, LOCKS, fresh, shown
 from desk.reasons import reasons
 
-KINDS = {"acquire": ["lock", "machine", "task", "mode"], "release": ["lock", "machine", "task"], "deliver": ["lock", "index"]}
+KINDS = {"acquire": ["lock", "machine", "task", "mode"], "release": ["lock", "machine", "task"], "deliver": ["lock", "index"], "lose": ["lock", "index"],
+         "give-up": ["lock", "machine", "task"]}
 MODES = {"shared": 3, "exclusive": 2}
 ENDS = {0: "end", 12: "bad record", 13: "too long", 16: "bad preference"}
 
@@ -67,7 +68,7 @@ def numbered(number, words, answer, told=None, preference=0):
     values = [part for word in rest for part in word.split("/")]
     fields = zip(KINDS[kind], (MODES.get(value) or int(value) for value in values), strict=True)
     told = {"named": told and int(told), "handling": None} if kind == "acquire" else {"handling": told}
-    return {"n": number, "kind": kind, **dict(fields), "answer": answer, **told, "preference": preference}
+    return {"n": number, "kind": kind.replace("-", " "), **dict(fields), "answer": answer, **told, "preference": preference}
 
 
 def agent_of(short):
@@ -90,8 +91,8 @@ def state_of(text):
         state["decider"].update(zip(FORMS["decider"], short["decider"]))
     for machine, agent in short.get("agents", {}).items():
         state["agents"][int(machine)] = agent_of(agent)
-    for number, (status, mode) in short.get("clients", {}).items():
-        state["clients"][int(number)].update(status=status, mode=mode)
+    for number, (status, mode, *note) in short.get("clients", {}).items():
+        state["clients"][int(number)].update(status=status, mode=mode, lost=bool(note))
     state["wire"] = [packet_of(packet) for packet in short.get("wire", []) for _ in range(packet.get("times", 1))]
     for client, found in zip(state["clients"], reasons(state)):
         client["reason"] = found

@@ -4,7 +4,7 @@ import pathlib
 
 from cases import cases_of, end_of, numbered, packet_of, state_of
 from desk.lines import fresh, shown
-from desk.reasons import reason
+from desk.reasons import GRANT_LOST, reason
 
 
 def lines(*objects):
@@ -27,6 +27,10 @@ def replaced(line, **fields):
 def changed(line, writer):
     """A line with another bit of the decider."""
     return {**line, "state": {**line["state"], "decider": {**line["state"]["decider"], "writer": writer}}}
+
+
+def client(status, mode, lost, why):
+    return {"status": status, "mode": mode, "lost": lost, "reason": why}
 
 
 RIGHT = {case.name: case.objects for case in cases_of(pathlib.Path(__file__).parent / "reasons.cases")}
@@ -156,7 +160,7 @@ STILL = '{"wire":[{"kind":"RELEASE","client":5},{"kind":"RELEASE","client":4},{"
 FREE = '{"wire":[{"kind":"FREE","agent":{"mode":3}}]}'
 WAITS = '{"clients":{"4":["waiting",3]},"wire":[{"kind":"ACQUIRE","client":4,"mode":3}]}'
 NOT_LINES += [(lines({**numbered(1, "acquire 0 1/0 shared", answer), "named": wrong, **shown(state_of(state))}, ENDED), FIRST) for answer, wrong, state in [
-    (6, 0, "{}"), (6, None, "{}"), (6, None, STILL), (6, 2, STILL), (6, 0, STILL), (6, 3, STILL), (6, 33, STILL), (6, True, STILL), (6, "1", STILL),
+    (6, 0, "{}"), (6, None, "{}"), (6, None, STILL), (6, 2, STILL), (6, 0, STILL), (6, 3, STILL), (6, 49, STILL), (6, True, STILL), (6, "1", STILL),
     (5, 0, WAITS), (0, 0, WAITS), (9, 1, STILL)]]
 NOT_LINES += [
     (lines({**numbered(1, "acquire 0 0/0 shared", 6), "named": 0, **shown(state_of(FREE))}, ENDED), FIRST),
@@ -165,8 +169,25 @@ NOT_LINES += [
     (lines({**refused(1), "named": None}, ENDED), FIRST),
 ]
 
+# of a loss and of giving up: another kind, an answer of another call, a handling, a field too many, too few or of another call
+LOST = '{"decider":[3,0,1],"clients":{"4":["waiting",3,true]},"wire":[{"kind":"ACQUIRE","to":0,"client":4,"mode":3,"granted":true}]}'
+NOT_LINES += [(lines(after(1, words, LOST, answer), ENDED), FIRST) for words, answers in [
+    ("lose 0 0", (2, 3, 4, 5, 6, 7, 9, 10, 12, 14, 15, 16, 17, 19, True)), ("give-up 0 1/0", (4, 5, 6, 7, 8, 9, 12, 14, 15, 16, 18, 19, True)),
+    ("acquire 0 1/0 shared", (17, 18)), ("release 0 1/0", (17, 18)), ("deliver 0 0", (17, 18))] for answer in answers]
+LOSS, GIVES_UP = after(1, "lose 0 0", LOST, 18), after(1, "give-up 0 0/0", LOST, 17)
+NOT_LINES += [(lines(*objects), FIRST) for objects in [
+    *((replaced(LOSS, kind=wrong), ENDED) for wrong in ("give up", "loses", "lost", "LOSE")),
+    *((replaced(GIVES_UP, kind=wrong), ENDED) for wrong in ("lose", "give-up", "gives up", "giveup", 7)),
+    *((replaced(one, answer=0, handling="taken"), replaced(ENDED, handling="taken")) for one in (LOSS, GIVES_UP)),
+    (replaced(LOSS, index=256), ENDED), (replaced(GIVES_UP, task=256), ENDED), (replaced(LOSS, machine=0), ENDED), (replaced(GIVES_UP, mode=3), ENDED),
+    ({field: value for field, value in GIVES_UP.items() if field != "task"}, ENDED), (replaced(LOSS, state=None, counts=None), ENDED),
+    ({**numbered(1, "lose 8 0", 1), **shown(fresh())}, ENDED), ({**numbered(1, "give-up 8 0/0", 1), **shown(fresh())}, ENDED),
+    (end_of('0 = 0 {"3":32769}'),),
+]]
+
 REJECTED, MOVED, NOTHING = "a rejected GRANT, and two in the queue of its agent", "only indexes move", "nothing of a client is under way"
 KINDS, LOWEST = "two reasons of different kinds", "two reasons of one kind"
+NOTED, BOTH = "two who have the note, before and behind one whose GRANT is on the wire", "the note and another reason"
 # a reason that the state of a case's line does not give to this client
 WRONG_REASONS = [
     (REJECTED, 1, 0, reason("ACQUIRE", index=1)),  # it is idle
@@ -190,6 +211,12 @@ WRONG_REASONS = [
     (LOWEST, 2, 4, reason("ACQUIRE", index=1)),
     (LOWEST, 2, 8, reason("queue", machine=3, ahead=0)),
     (LOWEST, 2, 10, reason("queue", index=4, ahead=0)),  # it stands there and is idle
+    (NOTED, 2, 4, None),
+    (NOTED, 2, 4, reason("GRANT", index=0)),  # that one is for another
+    (NOTED, 2, 8, reason(GRANT_LOST)),  # its GRANT is on the wire, and it has no note
+    (NOTHING, 2, 3, reason(GRANT_LOST)),
+    (NOTED, 3, 8, reason("GRANT", index=0)),  # it was lost
+    *((BOTH, 2, number, reason(GRANT_LOST)) for number in (4, 5, 6, 7, 9)),  # true, but another comes first
 ]
 NOT_LINES += [(with_reason(*wrong), FIRST) for wrong in WRONG_REASONS]
 
@@ -198,8 +225,12 @@ NOT_IN_FORM = [
     *(("reason", wrong) for wrong in [
         reason("RELEASE", index=0), reason("GRANT"), reason("GRANT", machine=0), reason("GRANT", index=0, machine=0), reason("ACQUIRE", index=0, ahead=0),
         reason("queue", index=0), reason("queue", machine=0), reason("queue", ahead=0), reason("queue", index=0, machine=0, ahead=0),
-        reason("GRANT", index=33), reason("queue", machine=4, ahead=0), reason("queue", machine=0, ahead=16), reason("GRANT", index=False)]),
-    *(("client", {"status": status, "mode": mode, "reason": reason("GRANT", index=0)}) for status, mode in [("idle", None), ("holding", 3)]),
+        reason("GRANT", index=49), reason("queue", machine=4, ahead=0), reason("queue", machine=0, ahead=16), reason("GRANT", index=False)]),
+    *(("reason", reason(GRANT_LOST, *wrong)) for wrong in [(0, None, None), (None, 0, None), (None, None, 0), (0, 0, None), (None, 0, 0)]),
+    *(("client", client(status, mode, False, reason("GRANT", index=0))) for status, mode in [("idle", None), ("holding", 3)]),
+    *(("client", client(status, mode, True, why)) for status, mode in [("idle", None), ("holding", 2), ("holding", 3)] for why in (None, reason(GRANT_LOST))),
+    *(("client", client("waiting", 3, wrong, reason(GRANT_LOST))) for wrong in (None, 1, 0, "true", [])),
+    ("client", dict(reversed(client("waiting", 3, True, reason(GRANT_LOST)).items()))),
     *(("packet", packet_of({"client": 0, **more})) for more in [
         {"kind": "GRANT", "mode": 3, "circled": 1}, {"kind": "GRANT", "mode": 3, "agent": {"mode": 3}, "circled": 255},
         {"kind": "FREE", "client": None, "agent": {"mode": 3}, "circled": 1}, {"kind": "RELEASE", "circled": 256}, {"kind": "RELEASE", "circled": -1},

@@ -72,7 +72,10 @@ fn with_status(mut s: LockState, c: u8, status: Status) -> LockState {
         print::out_of_range();
         return s;
     }
-    let y = ClientState { status };
+    let y = ClientState {
+        status,
+        lost: false,
+    };
     s.clients[i] = y;
     s
 }
@@ -85,6 +88,20 @@ fn with_holder(s: LockState, c: u8, m: u8) -> LockState {
 fn with_waiter(s: LockState, c: u8, m: u8) -> LockState {
     let mode = agents::mode(m);
     with_status(s, c, Status::Waiting(mode))
+}
+
+// The note of a lost GRANT, whatever the client's status is.
+fn with_note(mut s: LockState, c: u8) -> LockState {
+    let i = c as usize;
+    if CLIENTS <= i {
+        print::out_of_range();
+        return s;
+    }
+    let y = s.clients[i];
+    let status = y.status;
+    let z = ClientState { status, lost: true };
+    s.clients[i] = z;
+    s
 }
 
 fn with_packet(mut s: LockState, j: u8, p: Packet) -> LockState {
@@ -123,7 +140,7 @@ pub fn made(s: LockState, x: AgentSlot, p: Packet, t: &[u8], n: Numbers) -> Lock
     let k = word(
         t,
         n.count,
-        b"3owned 1free 2incarnation 2agent 3holds 3waits 2packet 2length 1filled 1writer",
+        b"3owned 1free 2incarnation 2agent 3holds 3waits 2packet 2length 1filled 1writer 2lost",
     );
     match k {
         0 => owned(s, n.second, n.third),
@@ -136,6 +153,7 @@ pub fn made(s: LockState, x: AgentSlot, p: Packet, t: &[u8], n: Numbers) -> Lock
         7 => with_length(s, n.second),
         8 => filled(s, p),
         9 => with_writer(s),
+        10 => with_note(s, n.second),
         _ => s,
     }
 }

@@ -1,4 +1,4 @@
-// The two counts of any lock state, made by hand or not: its agents, and the marked ACQUIREs on its wire. docs/why-33.md says what they are for.
+// The two counts of any lock state, made by hand or not: its agents, and the marked ACQUIREs on its wire. docs/why-49.md says what they are for.
 ghost use mathlib.Core.Path.{_≡_};
 ghost use Prim.Native.Nat.{_≤_};
 ghost use lib.ListN.{take};

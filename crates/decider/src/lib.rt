@@ -29,8 +29,8 @@ use rules::site::with_decider;
 ghost use mathlib.Core.Path.{_≡_};
 ghost use mathlib.Core.Bool.{true, false};
 ghost use lib.Dec.{eqb};
-ghost use Rattle.model.specs.AtDecider.{sentOn, toOwner, grantsWith, grantsFirst, mayShare, shares, rejectedTo, noting, decidesAcquire, decidesFree};
-ghost use Rattle.model.specs.AtDecider.{decidesGrant, decides, atDecider};
+ghost use Rattle.model.specs.AtDecider.{sentOn, toOwner, decidesRelease, grantsWith, grantsFirst, mayShare, shares, rejectedTo, noting, decidesAcquire};
+ghost use Rattle.model.specs.AtDecider.{decidesFree, decidesGrant, decides, atDecider};
 ghost use Rattle.laws.specs.Shapes.{CanonicalQueue};
 ghost use Rattle.rules.specs.Effects.{verdictOf};
 
@@ -69,6 +69,16 @@ fn to_owner(o: Owner, v: Site, p: Packet) -> Effect
 {
     match o {
         Owner::Free => cannot_place(),
+        Owner::Owned(_, k) => sending(v, sent_on(p, k)),
+    }
+}
+
+// At a free lock a RELEASE goes to the wire's end, and comes again.
+fn decides_release(o: Owner, v: Site, p: Packet) -> Effect
+    ensures { λ r. ⌜ verdictOf r ≡ decidesRelease o v p ⌝ }
+{
+    match o {
+        Owner::Free => sending(v, resent(p, Address::Decider, p.rejected)),
         Owner::Owned(_, k) => sending(v, sent_on(p, k)),
     }
 }
@@ -237,7 +247,7 @@ fn decides(m: Message, o: Owner, v: Site, p: Packet) -> Effect
             granted,
         } => decides_acquire(o, v, p, client, mode, granted),
         Message::Grant { client, mode } => decides_grant(o, v, p, client, mode),
-        Message::Release { client: _ } => to_owner(o, v, p),
+        Message::Release { client: _ } => decides_release(o, v, p),
     }
 }
 

@@ -55,7 +55,7 @@ agentBytes a = modeNumber (a .mode) ∷ a .incarnation ∷ (each flagBytes (a .h
 unfoldable pub slotBytes : AgentSlot → List ℕ
 slotBytes x = pick (x .present) (1 ∷ agentBytes (x .agent)) (0 ∷ [])
 
--- item 3
+-- item 3: status, note
 abbrev pub statusNumber : Status → ℕ
 statusNumber Idle = 0
 statusNumber (Waiting m) = modeNumber m
@@ -63,7 +63,7 @@ statusNumber (Holding Exclusive) = 6
 statusNumber (Holding Shared) = 7
 
 unfoldable pub clientBytes : ClientState → List ℕ
-clientBytes c = statusNumber (c .status) ∷ []
+clientBytes c = statusNumber (c .status) ∷ flagNumber (c .lost) ∷ []
 
 -- item 4: the message's numbers; address; rejected, count; agent slot
 abbrev pub addressBytes : Address → List ℕ

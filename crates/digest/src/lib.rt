@@ -186,7 +186,7 @@ fn client(h: u32, c: ClientState) -> u32
     ensures { λ r. ⌜ r ≡ digestOf h (clientBytes c) ⌝ }
 {
     let s = c.status;
-    byte(h, status_number(s))
+    two(h, status_number(s), flag_number(c.lost))
 }
 
 fn clients(h: u32, a: [ClientState; CLIENTS]) -> u32
@@ -300,6 +300,7 @@ fn because(h: u32, r: Reason) -> u32
         Reason::Rejected { index } => two(h, 3, index),
         Reason::Queued { machine, ahead } => byte(two(h, 4, machine.0), ahead),
         Reason::Carried { index, ahead } => byte(two(h, 5, index), ahead),
+        Reason::GrantLost => byte(h, 6),
     }
 }
 

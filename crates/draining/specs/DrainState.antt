@@ -1,6 +1,6 @@
 -- The drain of one lock's state, by the same steps as the drain of a cluster, without its calls' tests.
 use mathlib.Core.Path.{_≡_, refl, sym, ap, subst, _∙_}
-use mathlib.Core.Bool.{true, false, true≢false}
+use mathlib.Core.Bool.{Bool, true, false, true≢false}
 use mathlib.Core.List.{List, [], _∷_}
 use Prim.Native.Nat.{ℕ, zero, suc, _+_, _-_, _*_, _/_, _%_, _<_, _≤_}
 use native.Mathlib.Omega.{arith}
@@ -8,26 +8,27 @@ use native.Mathlib.Numerals.{add-one, sub-one}
 use lib.ListN.{length, drop, getD, set, drop-of-length-le}
 use lib.Seq.{set-set, set-getD, getD-set-same, drop-cons}
 use lib.Dec.{ltb}
-use borrow.Author.Tests.{lt-leb, le-leb, lt-ltb, le-ltb}
+use borrow.Author.Tests.{lt-leb, le-leb, lt-ltb, le-ltb, ltb-true, ltb-false}
 use Rattle.model.specs.Lists.{pick}
 use Rattle.draining.specs.Names.{LockId, Packet, ClientState, LockState, Cluster, Call, ReleaseCall, DeliverCall, Refusal, Malformed, LockRange}
-use Rattle.draining.specs.Names.{NotQuiescent, Answer, Accepted, Refused, Handling, None, Stepped}
+use Rattle.draining.specs.Names.{GiveUpCall, NotQuiescent, Answer, Accepted, Refused, Handling, None, Stepped}
 use Rattle.model.specs.States.{locks, tasks, clients, packets, lockIn, freshLock}
 use Rattle.model.specs.WellFormed.{lockFormed, wellFormed}
 use Rattle.model.specs.Refusals.{number, first}
-use Rattle.model.specs.Calls.{isHolding, releaseStep, deliverStep, withLock, settled, perform, handlingsOf, latest, lastTold}
-use Rattle.model.specs.Drain.{allowance, Next, none, some, releaseFirst, nextOf, nextCall, Drainage, ending, drainage, drainRefused, drainEnded}
-use Rattle.model.specs.Drain.{drainUnless, drain}
+use Rattle.model.specs.Calls.{isHolding, releaseStep, giveUpStep, deliverStep, withLock, settled, perform, handlingsOf, latest, lastTold}
+use Rattle.model.specs.Drain.{allowance, Next, none, some, releaseFirst, giveUpFirst, orElse, nextOf, nextCall, Drainage, ending, drainage, drainRefused}
+use Rattle.model.specs.Drain.{drainEnded, drainUnless, drain}
 use Rattle.laws.specs.Tests.{bool-cases, pick-yes, pick-no}
 use Rattle.laws.specs.Formed.{cells, parts, ready}
 use Rattle.laws.specs.Shapes.{length-packets}
 use Rattle.laws.specs.CallSteps.{stepOf, settled-answer}
 use Rattle.laws.specs.Clusters.{perform-formed}
-use Rattle.laws.specs.FormedStep.{release-formed, deliver-formed}
+use Rattle.laws.specs.FormedStep.{release-formed, give-up-formed, deliver-formed}
 use Rattle.laws.specs.Next.{next-is, Goes, goes}
 use Rattle.planning.specs.declared.plan.Plan.{Plan}
 use Rattle.planning.specs.Plans.{Plans, carriedOut, plan-accepts, plan-refuses}
 use Rattle.laws.specs.Formed.{lock-read}
+use Rattle.draining.specs.declared.Turn.{Turn}
 use Rattle.draining.specs.declared.Draining.{Draining}
 
 abbrev pub endedWith : Answer → Draining → Draining
@@ -172,36 +173,73 @@ unfolding drain drainUnless first
 drain-range x l w h = rw (w, le-leb locks (l .0) h)
 
 -- ---- what the drain does next, as the code finds it
--- the number of the first client that holds, counted from n, or the number past the last
-unfoldable pub holderFrom : ℕ → List ClientState → ℕ
-holderFrom n [] = n
-holderFrom n (c ∷ cs) = pick (isHolding (c .status)) n (holderFrom (suc n) cs)
+-- the number of the first client that passes the test, counted from n, or the number past the last
+unfoldable pub firstFrom : (ClientState → Bool) → ℕ → List ClientState → ℕ
+firstFrom f n [] = n
+firstFrom f n (c ∷ cs) = pick (f c) n (firstFrom f (suc n) cs)
 
--- a loop over all of xs keeps `holderFrom j (drop j xs)`
-module _ (xs : List ClientState) (j : ℕ) (d : ClientState) {n : ℕ} (i : holderFrom j (drop j xs) ≡ n) where
-  pub holder-here : j < length xs → isHolding (getD xs j d .status) ≡ true → j ≡ n
-  unfolding holderFrom
-  holder-here h e = rw (drop-cons xs j d, e) at i
+-- a loop over all of xs keeps `firstFrom f j (drop j xs)`
+module _ (f : ClientState → Bool) (xs : List ClientState) (j : ℕ) (d : ClientState) {n : ℕ} (i : firstFrom f j (drop j xs) ≡ n) where
+  pub first-here : j < length xs → f (getD xs j d) ≡ true → j ≡ n
+  unfolding firstFrom
+  first-here h e = rw (drop-cons xs j d, e) at i
 
-  pub holder-next : j < length xs → isHolding (getD xs j d .status) ≡ false → holderFrom (j + 1) (drop (j + 1) xs) ≡ n
-  unfolding holderFrom
-  holder-next h e = rw add-one (rw (drop-cons xs j d, e) at i)
+  pub first-next : j < length xs → f (getD xs j d) ≡ false → firstFrom f (j + 1) (drop (j + 1) xs) ≡ n
+  unfolding firstFrom
+  first-next h e = rw add-one (rw (drop-cons xs j d, e) at i)
 
-  pub holder-end : length xs ≤ j → j ≡ n
-  unfolding holderFrom
-  holder-end h = rw drop-of-length-le at i
+  pub first-end : length xs ≤ j → j ≡ n
+  unfolding firstFrom
+  first-end h = rw drop-of-length-le at i
 
--- the release by the client of that number
+abbrev pub holds : ClientState → Bool
+holds c = isHolding (c .status)
+
+abbrev pub noted : ClientState → Bool
+noted c = c .lost
+
+abbrev pub firstHolder : List ClientState → ℕ
+firstHolder cs = firstFrom holds 0 cs
+
+abbrev pub firstNoted : List ClientState → ℕ
+firstNoted cs = firstFrom noted 0 cs
+
+-- the turn is the first holder's or, where nobody holds, that of the first with a note
+abbrev releasing : ℕ → Turn
+releasing c = record { client = record { 0 = c }; lost = false }
+
+abbrev givingUp : ℕ → Turn
+givingUp c = record { client = record { 0 = c }; lost = true }
+
+unfoldable pub turnOf : List ClientState → Turn
+turnOf cs = pick (ltb (firstHolder cs) clients) (releasing (firstHolder cs)) (givingUp (firstNoted cs))
+
+-- its step, in a cluster with the preference n
+unfoldable pub turnStep : ℕ → LockState → Turn → Stepped
+turnStep n s t = pick (t .lost) (giveUpStep n s (t .client)) (releaseStep n s (t .client))
+
+-- the calls by the client of a number
 abbrev pub releaseBy : LockId → ℕ → Call
 releaseBy l c = ReleaseCall l (record { 0 = c / tasks }) (record { 0 = c % tasks })
 
+abbrev pub giveUpBy : LockId → ℕ → Call
+giveUpBy l c = GiveUpCall l (record { 0 = c / tasks }) (record { 0 = c % tasks })
+
 holder-is : (l : LockId) (n : ℕ) (cs : List ClientState)
-    → releaseFirst l n cs ≡ pick (ltb (holderFrom n cs) (n + length cs)) (some (releaseBy l (holderFrom n cs))) none
-unfolding releaseFirst holderFrom
+    → releaseFirst l n cs ≡ pick (ltb (firstFrom holds n cs) (n + length cs)) (some (releaseBy l (firstFrom holds n cs))) none
+unfolding releaseFirst firstFrom
 holder-is l n [] = rw (le-ltb n (n + 0) (omega arith))
 holder-is l n (c ∷ cs) =
     let e : n + suc (length cs) ≡ suc n + length cs = omega arith in
     bool-cases (isHolding (c .status)) (λ q. rw (q, lt-ltb n (n + suc (length cs)) (omega arith))) (λ q. rw (q, e) (holder-is l (suc n) cs))
+
+noted-is : (l : LockId) (n : ℕ) (cs : List ClientState)
+    → giveUpFirst l n cs ≡ pick (ltb (firstFrom noted n cs) (n + length cs)) (some (giveUpBy l (firstFrom noted n cs))) none
+unfolding giveUpFirst firstFrom
+noted-is l n [] = rw (le-ltb n (n + 0) (omega arith))
+noted-is l n (c ∷ cs) =
+    let e : n + suc (length cs) ≡ suc n + length cs = omega arith in
+    bool-cases (c .lost) (λ q. rw (q, lt-ltb n (n + suc (length cs)) (omega arith))) (λ q. rw (q, e) (noted-is l (suc n) cs))
 
 module _ (l : LockId) (s : LockState) where
   pub next-delivers : 0 < length (packets (s .wire)) → nextCall l s ≡ some (DeliverCall l 0)
@@ -212,21 +250,34 @@ module _ (l : LockId) (s : LockState) where
       go [] h = absurd (omega arith)
       go (p ∷ ps) h = refl
 
-  no-packets : (ps : List Packet) → length ps ≡ 0 → nextOf l ps (s .clients) ≡ releaseFirst l 0 (s .clients)
+  no-packets : (ps : List Packet) → length ps ≡ 0 → nextOf l ps (s .clients) ≡ orElse (releaseFirst l 0 (s .clients)) (giveUpFirst l 0 (s .clients))
   unfolding nextOf
   no-packets [] e = refl
   no-packets (p ∷ ps) e = absurd (omega arith)
 
-  pub next-releases : length (packets (s .wire)) ≡ 0 → holderFrom 0 (s .clients) < length (s .clients)
-      → nextCall l s ≡ some (releaseBy l (holderFrom 0 (s .clients)))
-  next-releases e h = no-packets (packets (s .wire)) e ∙ holder-is l 0 (s .clients) ∙ pick-yes _ (lt-ltb _ (0 + length (s .clients)) (omega arith))
-
-  pub next-none : length (packets (s .wire)) ≡ 0 → length (s .clients) ≤ holderFrom 0 (s .clients) → nextCall l s ≡ none
-  next-none e h = no-packets (packets (s .wire)) e ∙ holder-is l 0 (s .clients) ∙ pick-no _ (le-ltb _ (0 + length (s .clients)) (omega arith))
-
-  -- the step of the release that the drain makes
-  pub release-of : (n c : ℕ) → stepOf n (releaseBy l c) s ≡ releaseStep n s (record { 0 = c })
+  -- the steps of the calls that the drain makes
+  release-of : (n c : ℕ) → stepOf n (releaseBy l c) s ≡ releaseStep n s (record { 0 = c })
   release-of n c = let q : tasks * (c / tasks) + c % tasks ≡ c = omega arith in rw q
+
+  give-up-of : (n c : ℕ) → stepOf n (giveUpBy l c) s ≡ giveUpStep n s (record { 0 = c })
+  give-up-of n c = let q : tasks * (c / tasks) + c % tasks ≡ c = omega arith in rw q
+
+  module _ (e : length (packets (s .wire)) ≡ 0) (z : length (s .clients) ≡ clients) where
+    next-releases : firstHolder (s .clients) < clients → nextCall l s ≡ some (releaseBy l (firstHolder (s .clients)))
+    next-releases h =
+        let q = holder-is l 0 (s .clients) ∙ pick-yes none (lt-ltb (firstHolder (s .clients)) (0 + length (s .clients)) (omega (arith, z))) in
+        no-packets (packets (s .wire)) e ∙ rw q
+
+    nobody-holds : clients ≤ firstHolder (s .clients) → nextCall l s ≡ giveUpFirst l 0 (s .clients)
+    nobody-holds h =
+        let q = holder-is l 0 (s .clients) ∙ pick-no _ (le-ltb (firstHolder (s .clients)) (0 + length (s .clients)) (omega (arith, z))) in
+        no-packets (packets (s .wire)) e ∙ rw q
+
+    next-gives-up : clients ≤ firstHolder (s .clients) → firstNoted (s .clients) < clients → nextCall l s ≡ some (giveUpBy l (firstNoted (s .clients)))
+    next-gives-up h g = nobody-holds h ∙ noted-is l 0 (s .clients) ∙ pick-yes _ (lt-ltb (firstNoted (s .clients)) (0 + length (s .clients)) (omega (arith, z)))
+
+    next-none : clients ≤ firstHolder (s .clients) → clients ≤ firstNoted (s .clients) → nextCall l s ≡ none
+    next-none h g = nobody-holds h ∙ noted-is l 0 (s .clients) ∙ pick-no _ (le-ltb (firstNoted (s .clients)) (0 + length (s .clients)) (omega (arith, z)))
 
 -- ---- along a phase
 -- d goes on, from a well-formed state
@@ -308,21 +359,52 @@ module _ (n : ℕ) (t : LockState) (f : lockFormed n t ≡ true) where
         formed = deliver-formed n t 0 b f;
       }
 
-  -- d is what the search for a holder found
-  module _ (e : t .wire .len ≡ 0) (d : ℕ) (q : d ≡ holderFrom 0 (t .clients)) where
-    pub release-planned : (p : Plan) → d < clients → Plans p t (releaseStep n t (record { 0 = d })) → Planned n t p
+  module _ (e : t .wire .len ≡ 0) where
+    release-planned : (p : Plan) → firstHolder (t .clients) < clients → Plans p t (releaseStep n t (record { 0 = firstHolder (t .clients) })) → Planned n t p
     release-planned p h g =
         record {
-          call = λ l. releaseBy l d;
-          gives = releaseStep n t (record { 0 = d });
-          next = λ l. rw q (next-releases l t (wire-length ∙ e) (omega (arith, parts t f .all-clients)));
-          step = λ l. release-of l t n d;
+          call = λ l. releaseBy l (firstHolder (t .clients));
+          gives = releaseStep n t (record { 0 = firstHolder (t .clients) });
+          next = λ l. next-releases l t (wire-length ∙ e) (parts t f .all-clients) h;
+          step = λ l. release-of l t n (firstHolder (t .clients));
           plans = g;
-          formed = release-formed n t (record { 0 = d }) h f;
+          formed = release-formed n t (record { 0 = firstHolder (t .clients) }) h f;
         }
 
-    pub none-holds : clients ≤ d → (l : LockId) → nextCall l t ≡ none
-    none-holds h l = next-none l t (wire-length ∙ e) (omega (arith, parts t f .all-clients))
+    give-up-planned : (p : Plan) → clients ≤ firstHolder (t .clients) → firstNoted (t .clients) < clients
+        → Plans p t (giveUpStep n t (record { 0 = firstNoted (t .clients) })) → Planned n t p
+    give-up-planned p k h g =
+        record {
+          call = λ l. giveUpBy l (firstNoted (t .clients));
+          gives = giveUpStep n t (record { 0 = firstNoted (t .clients) });
+          next = λ l. next-gives-up l t (wire-length ∙ e) (parts t f .all-clients) k h;
+          step = λ l. give-up-of l t n (firstNoted (t .clients));
+          plans = g;
+          formed = give-up-formed n t (record { 0 = firstNoted (t .clients) }) h f;
+        }
+
+    -- u is the turn that the code finds
+    module _ (u : Turn) (q : u ≡ turnOf (t .clients)) where
+      held : ltb (firstHolder (t .clients)) clients ≡ true → u ≡ releasing (firstHolder (t .clients))
+      unfolding turnOf
+      held k = q ∙ pick-yes _ k
+
+      unheld : ltb (firstHolder (t .clients)) clients ≡ false → u ≡ givingUp (firstNoted (t .clients))
+      unfolding turnOf
+      unheld k = q ∙ pick-no _ k
+
+      pub turn-planned : (p : Plan) → u .client .0 < clients → Plans p t (turnStep n t u) → Planned n t p
+      unfolding turnStep
+      turn-planned p h g =
+          bool-cases (ltb (firstHolder (t .clients)) clients)
+          (λ k. release-planned p (rw (held k) at h) (rw (held k) at g))
+          (λ k. give-up-planned p (ltb-false (firstHolder (t .clients)) clients k) (rw (unheld k) at h) (rw (unheld k) at g))
+
+      pub nobodys-turn : clients ≤ u .client .0 → (l : LockId) → nextCall l t ≡ none
+      nobodys-turn h l =
+          bool-cases (ltb (firstHolder (t .clients)) clients)
+          (λ k. absurd (omega (arith, rw (held k) at h, ltb-true (firstHolder (t .clients)) clients k)))
+          (λ k. next-none l t (wire-length ∙ e) (parts t f .all-clients) (ltb-false (firstHolder (t .clients)) clients k) (rw (unheld k) at h))
 
 module _ {d : Draining} (o : Open d) where
   progress-ends : (a : Answer) → ((l : LockId) → endedWith a d ≡ drainOn l d) → Stepping d (endedWith a d)

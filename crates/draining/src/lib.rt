@@ -14,8 +14,10 @@ use model::LockId;
 use model::LockState;
 use model::Refusal;
 use parts::state::is_holding;
+use planning::plan::Plan;
 use planning::plan::carry_out;
 use planning::steps::plan_deliver;
+use planning::steps::plan_give_up;
 use planning::steps::plan_release;
 ghost use mathlib.Core.Path.{_≡_};
 ghost use mathlib.Core.Bool.{true, false};
@@ -24,8 +26,10 @@ ghost use Rattle.model.specs.States.{locks};
 ghost use Rattle.model.specs.WellFormed.{wellFormed};
 ghost use Rattle.model.specs.Calls.{latest};
 ghost use Rattle.model.specs.Drain.{drainRefused, drain};
+ghost use Rattle.laws.specs.Formed.{Ready};
+ghost use Rattle.planning.specs.Plans.{Plans};
 ghost use Rattle.draining.specs.Names.{LockId};
-ghost use Rattle.draining.specs.DrainState.{Open, Stepping, endedWith, within, drainOn, holderFrom};
+ghost use Rattle.draining.specs.DrainState.{Open, Stepping, endedWith, within, drainOn, firstHolder, firstNoted, turnOf, turnStep};
 
 // The last handling that a step told.
 pub(crate) struct Told {
@@ -42,9 +46,15 @@ pub(crate) struct Draining {
     pub(crate) state: LockState,
 }
 
+// With an empty wire it is a client's turn: to release what it holds or, where lost is true, to give up. A number past the last is nobody's.
+pub(crate) struct Turn {
+    pub(crate) client: ClientId,
+    pub(crate) lost: bool,
+}
+
 // The number of the first client that holds, or the number past the last.
 fn first_holder(a: [ClientState; CLIENTS]) -> u8
-    ensures { λ r. ⌜ r ≡ holderFrom 0 a ⌝ }
+    ensures { λ r. ⌜ r ≡ firstHolder a ⌝ }
 {
     let mut j: u8 = 0;
     while j < CLIENTS as u8 {
@@ -56,6 +66,53 @@ fn first_holder(a: [ClientState; CLIENTS]) -> u8
         j += 1;
     }
     j
+}
+
+// And of the first with the note of a lost GRANT.
+fn first_noted(a: [ClientState; CLIENTS]) -> u8
+    ensures { λ r. ⌜ r ≡ firstNoted a ⌝ }
+{
+    let mut j: u8 = 0;
+    while j < CLIENTS as u8 {
+        let x = a[j as usize];
+        if x.lost {
+            return j;
+        }
+        j += 1;
+    }
+    j
+}
+
+// Nobody gives up while a client holds.
+fn turn_of(a: [ClientState; CLIENTS]) -> Turn
+    ensures { λ r. ⌜ r ≡ turnOf a ⌝ }
+{
+    let c = first_holder(a);
+    if c < CLIENTS as u8 {
+        Turn {
+            client: ClientId(c),
+            lost: false,
+        }
+    } else {
+        let d = first_noted(a);
+        Turn {
+            client: ClientId(d),
+            lost: true,
+        }
+    }
+}
+
+// n is the cluster's preference.
+fn plan_turn(n: u8, s: LockState, t: Turn) -> Plan
+    requires { ⌜ Ready s ⌝ }
+    ensures { λ r. ⌜ Plans r s (turnStep n s t) ⌝ }
+{
+    let c = t.client;
+    if t.lost {
+        plan_give_up(n, s, c)
+    } else {
+        plan_release(n, s, c)
+    }
 }
 
 fn end_with(d: Draining, a: Answer) -> Draining
@@ -118,7 +175,7 @@ fn deliver_all(start: Draining) -> Draining
     d
 }
 
-// Releases the holding client of lowest number until a packet is sent or nobody holds.
+// Takes the turn of the holding client of lowest number, or else of the one whose GRANT was lost, until a packet is sent or it is nobody's.
 fn release_all(start: Draining) -> Draining
     requires { ⌜ (Open start) × (start .state .wire .len ≡ 0) ⌝ }
     ensures { λ r. ⌜ (Stepping start r) × (r .ended ≡ false → 0 < r .state .wire .len) ⌝ }
@@ -126,11 +183,11 @@ fn release_all(start: Draining) -> Draining
     let mut d = start;
     while d.state.wire.len == 0 {
         let clients = d.state.clients;
-        let c = first_holder(clients);
-        if CLIENTS as u8 <= c {
+        let t = turn_of(clients);
+        if CLIENTS as u8 <= t.client.0 {
             return end_with(d, Answer::Accepted);
         }
-        let p = plan_release(d.preference, d.state, ClientId(c));
+        let p = plan_turn(d.preference, d.state, t);
         let planned = p.answer;
         let next = p.handling;
         let a = step_answer(d.left, planned);
@@ -225,7 +282,7 @@ fn drain_lock(x: Cluster, l: LockId) -> Drained
     }
 }
 
-// Drains a lock: delivers and releases until it is quiescent.
+// Drains a lock: delivers, releases and gives up until it is quiescent.
 pub fn drain(x: Cluster, l: LockId) -> Drained
     ensures { λ r. ⌜ r ≡ drain x l ⌝ }
 {

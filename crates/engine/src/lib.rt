@@ -19,7 +19,7 @@ ghost use mathlib.Core.Bool.{true};
 ghost use Prim.Native.Nat.{_<_};
 ghost use Rattle.model.specs.States.{locks};
 ghost use Rattle.model.specs.WellFormed.{wellFormed};
-ghost use Rattle.model.specs.Calls.{acquire, release, deliver, perform, lockOf};
+ghost use Rattle.model.specs.Calls.{acquire, release, deliver, lose, giveUp, perform, lockOf};
 
 mod waiting;
 
@@ -60,6 +60,27 @@ pub fn deliver(x: Cluster, lock: LockId, index: u8) -> Outcome
     ensures { λ r. ⌜ r ≡ deliver x lock index ⌝ }
 {
     perform(Call::Deliver { lock, index }, x)
+}
+
+// Loses the GRANT without agent at the index on the lock's wire.
+pub fn lose(x: Cluster, lock: LockId, index: u8) -> Outcome
+    ensures { λ r. ⌜ r ≡ lose x lock index ⌝ }
+{
+    perform(Call::Lose { lock, index }, x)
+}
+
+// A waiting client asks no longer.
+pub fn give_up(x: Cluster, lock: LockId, machine: MachineId, task: TaskId) -> Outcome
+    ensures { λ r. ⌜ r ≡ giveUp x lock machine task ⌝ }
+{
+    perform(
+        Call::GiveUp {
+            lock,
+            machine,
+            task,
+        },
+        x,
+    )
 }
 
 // A well-formed cluster, and the call's lock is one of it: the lock's state is written in its place where the call is accepted.

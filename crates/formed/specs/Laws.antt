@@ -1,6 +1,6 @@
 -- Well-formedness: the one pass over a queue that tests ranges and that no client stands twice.
 use mathlib.Core.Path.{_≡_, refl, sym, _∙_}
-use mathlib.Core.Bool.{Bool, true, false, _&&_, _||_, not, and-true, and-false}
+use mathlib.Core.Bool.{Bool, true, false, _&&_, _||_, not, and-true, and-false, and-assoc}
 use mathlib.Core.List.{List, [], _∷_}
 use Prim.Native.Nat.{ℕ, zero, suc, _+_, _<_, _≤_}
 use native.Mathlib.Omega.{arith}
@@ -11,9 +11,11 @@ use lib.Dec.{eqb, leb}
 use borrow.Author.Tests.{leb-true, ltb-true, lt-ltb, le-ltb, eq-eqb, ne-eqb}
 use Rattle.model.specs.declared.ClientId.{ClientId}
 use Rattle.model.specs.declared.Waiter.{Waiter}
+use Rattle.model.specs.declared.Agent.{Agent}
+use Rattle.model.specs.declared.Packet.{Packet}
 use Rattle.model.specs.Lists.{any, all}
-use Rattle.model.specs.States.{clients}
-use Rattle.model.specs.WellFormed.{shaped, isClient, distinct, waiterInRange}
+use Rattle.model.specs.States.{clients, queueCapacity, isShared}
+use Rattle.model.specs.WellFormed.{shaped, isClient, distinct, waiterInRange, isBlankWaiter, isBlankAgent, isFree, toDecider, isBlankPacket}
 use Rattle.laws.specs.Tests.{and-left, and-right, bool-cases}
 use Rattle.parts.specs.Scans.{used-more, used-end, Joins, joins-all}
 
@@ -26,6 +28,52 @@ shaped-short n p slots len q e = leb-true len n (and-left (leb len n) _ (and-rig
 pub joins-whole : {A : Type 0} {p : A → Bool} {xs : List A} {ok₀ ok : Bool} {j₀ j n : ℕ} → Joins p xs ok₀ j₀ ok j → length xs ≡ n → n ≤ j
     → ok ≡ (eqb (length xs) n && (ok₀ && all p (drop j₀ xs)))
 joins-whole i e h = rw (eq-eqb _ _ e) (joins-all i (omega arith))
+
+-- ---- a blank agent and a blank packet, by tests made one after the other: the first that fails decides
+module _ (a : Agent) where
+  abbrev unheld : Bool
+  unheld = eqb (length (a .holders)) clients && all not (a .holders)
+
+  abbrev empty : Bool
+  empty = shaped queueCapacity isBlankWaiter (a .queue .slots) 0
+
+  abbrev plainly : Bool
+  plainly = eqb (a .queue .len) 0 && eqb (a .incarnation) 0
+
+  grouped : (not (isShared (a .mode)) && (unheld && (empty && plainly))) ≡ isBlankAgent a
+  unfolding isBlankAgent
+  grouped = rw (and-assoc (eqb (length (a .holders)) clients) (all not (a .holders)) (empty && plainly))
+
+  pub agent-blank : unheld ≡ true → empty ≡ true → (not (isShared (a .mode)) && plainly) ≡ isBlankAgent a
+  agent-blank h q = rw (← grouped, h, q)
+
+  pub agent-queued : unheld ≡ true → empty ≡ false → false ≡ isBlankAgent a
+  agent-queued h q = rw (← grouped, h, q, and-false (not (isShared (a .mode))))
+
+  pub agent-held : unheld ≡ false → false ≡ isBlankAgent a
+  agent-held h = rw (← grouped, h, and-false (not (isShared (a .mode))))
+
+and-front : (a b c d e f : Bool) → ((a && (b && (c && (d && e)))) && f) ≡ (a && (b && (c && (d && (e && f)))))
+and-front true true true true e f = refl
+and-front true true true false e f = refl
+and-front true true false d e f = refl
+and-front true false c d e f = refl
+and-front false b c d e f = refl
+
+module _ (p : Packet) where
+  -- all but the agent inside
+  abbrev blankHead : Bool
+  blankHead = isFree (p .message) && (toDecider (p .to) && (not (p .rejected) && (eqb (p .circled) 0 && not (p .carried .present))))
+
+  headed : (blankHead && isBlankAgent (p .carried .agent)) ≡ isBlankPacket p
+  unfolding isBlankPacket
+  headed = and-front (isFree (p .message)) (toDecider (p .to)) (not (p .rejected)) (eqb (p .circled) 0) (not (p .carried .present)) _
+
+  pub packet-by-agent : blankHead ≡ true → isBlankAgent (p .carried .agent) ≡ isBlankPacket p
+  packet-by-agent h = rw (← headed, h)
+
+  pub packet-by-head : blankHead ≡ false → false ≡ isBlankPacket p
+  packet-by-head h = rw (← headed, h)
 
 -- the waiter's client is not in the set
 abbrev pub isNew : List Bool → Waiter → Bool

@@ -1,5 +1,5 @@
-// Well-formedness: the test of refusal 11. Tests of a whole are joined by `&` and not by early returns: nearly always all of them hold,
-// and a loop without a way out is compiled to a few wide operations.
+// Well-formedness: the test of refusal 11. A loop joins its tests by `&` and has no early return: nearly always all of them hold, and a loop without a way
+// out is compiled to a few wide operations. Between two loops stands an `if`: joined by `&`, what they found would be put together bit by bit.
 use model::Address;
 use model::Agent;
 use model::AgentSlot;
@@ -21,6 +21,7 @@ use model::Queue;
 use model::WIRE_CAPACITY;
 use model::Waiter;
 use model::Wire;
+use parts::state::is_waiting;
 ghost use mathlib.Core.Path.{_≡_};
 ghost use mathlib.Core.Bool.{_&&_, _||_, not};
 ghost use Prim.Native.Nat.{_≤_};
@@ -31,7 +32,7 @@ ghost use Rattle.model.specs.States.{locks, machines, clients, queueCapacity, w
 ghost use Rattle.model.specs.declared.Message.the-variants.{Free};
 ghost use Rattle.model.specs.WellFormed.{clientInRange, ownerInRange, deciderFormed, addressInRange, shaped, isBlankWaiter, distinct, waiterInRange};
 ghost use Rattle.model.specs.WellFormed.{queueFormed, agentFormed, isBlankAgent, slotFormed, toDecider, messageFormed, circledFormed, packetFormed, isFree};
-ghost use Rattle.model.specs.WellFormed.{isBlankPacket, wireFormed, lockFormed, wellFormed};
+ghost use Rattle.model.specs.WellFormed.{isBlankPacket, wireFormed, clientFormed, lockFormed, wellFormed};
 
 // ---- blank slots
 fn is_exclusive(m: Mode) -> bool
@@ -86,9 +87,15 @@ fn is_blank_agent(a: Agent) -> bool
     let q = a.queue;
     let s = q.slots;
     let exclusive = is_exclusive(m);
-    let unheld = no_holder(h);
-    let empty = shaped_waiters(s, 0);
-    exclusive & (unheld & (empty & ((q.len == 0) & (a.incarnation == 0))))
+    if no_holder(h) {
+        if shaped_waiters(s, 0) {
+            exclusive & ((q.len == 0) & (a.incarnation == 0))
+        } else {
+            false
+        }
+    } else {
+        false
+    }
 }
 
 fn is_free(m: Message) -> bool
@@ -123,8 +130,11 @@ fn is_blank_packet(p: Packet) -> bool
     let x = p.carried;
     let free = is_free(m);
     let at_decider = to_decider(t);
-    let blank = is_blank_agent(x.agent);
-    free & (at_decider & (!p.rejected & ((p.circled == 0) & (!x.present & blank))))
+    if free & (at_decider & (!p.rejected & ((p.circled == 0) & !x.present))) {
+        is_blank_agent(x.agent)
+    } else {
+        false
+    }
 }
 
 // ---- a queue and an agent
@@ -269,45 +279,38 @@ fn packet_formed(p: Packet) -> bool
 }
 
 // ---- a wire
-fn shaped_packets(a: [Packet; WIRE_CAPACITY], n: usize) -> bool
-    ensures { λ r. ⌜ r ≡ shaped wireCapacity isBlankPacket a n ⌝ }
+// The slots behind the first n, then these: in one function, since each that takes the array copies it.
+fn packets_formed(a: [Packet; WIRE_CAPACITY], n: usize) -> bool
+    ensures { λ r. ⌜ r ≡ (shaped wireCapacity isBlankPacket a n && all packetFormed (take n a)) ⌝ }
 {
-    let mut ok = n <= WIRE_CAPACITY;
+    let mut blank = n <= WIRE_CAPACITY;
     let mut j = n;
     while j < WIRE_CAPACITY {
         let p = a[j];
         let b = is_blank_packet(p);
-        ok = ok & b;
+        blank = blank & b;
         j += 1;
     }
-    ok
-}
-
-fn packets_formed(a: [Packet; WIRE_CAPACITY], n: usize) -> bool
-    requires { ⌜ n ≤ wireCapacity ⌝ }
-    ensures { λ r. ⌜ r ≡ all packetFormed (take n a) ⌝ }
-{
-    let mut ok = true;
-    let mut j: usize = 0;
-    while j < n {
-        let p = a[j];
-        let b = packet_formed(p);
-        ok = ok & b;
-        j += 1;
+    if blank {
+        let mut ok = true;
+        let mut k: usize = 0;
+        while k < n {
+            let p = a[k];
+            let b = packet_formed(p);
+            ok = ok & b;
+            k += 1;
+        }
+        ok
+    } else {
+        false
     }
-    ok
 }
 
 fn wire_formed(w: Wire) -> bool
     ensures { λ r. ⌜ r ≡ wireFormed w ⌝ }
 {
     let a = w.slots;
-    let n = w.len as usize;
-    if shaped_packets(a, n) {
-        packets_formed(a, n)
-    } else {
-        false
-    }
+    packets_formed(a, w.len as usize)
 }
 
 // ---- a lock and the cluster, which has the preference n
@@ -342,10 +345,27 @@ fn slots_formed(a: [AgentSlot; MACHINES]) -> bool
     ok
 }
 
-fn has_all_clients(a: [ClientState; CLIENTS]) -> bool
-    ensures { λ r. ⌜ r ≡ eqb (length a) clients ⌝ }
+// Only who waits has the note of a lost GRANT.
+fn client_formed(x: ClientState) -> bool
+    ensures { λ r. ⌜ r ≡ clientFormed x ⌝ }
 {
-    true
+    let st = x.status;
+    let waits = is_waiting(st);
+    !x.lost | waits
+}
+
+fn clients_formed(a: [ClientState; CLIENTS]) -> bool
+    ensures { λ r. ⌜ r ≡ (eqb (length a) clients && all clientFormed a) ⌝ }
+{
+    let mut ok = true;
+    let mut j: usize = 0;
+    while j < CLIENTS {
+        let x = a[j];
+        let b = client_formed(x);
+        ok = ok & b;
+        j += 1;
+    }
+    ok
 }
 
 fn lock_formed(n: u8, s: LockState) -> bool
@@ -355,7 +375,7 @@ fn lock_formed(n: u8, s: LockState) -> bool
     let c = s.clients;
     let decider = decider_formed(n, s.decider);
     let agents = slots_formed(a);
-    let clients = has_all_clients(c);
+    let clients = clients_formed(c);
     let wire = wire_formed(s.wire);
     decider & (agents & (clients & wire))
 }

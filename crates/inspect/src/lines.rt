@@ -12,8 +12,8 @@ use model::Replayed;
 use records::reader::read_at;
 use transcript::run::replay;
 
-// No line is longer: 33 packets, each with an agent and 16 waiters inside, take less.
-const LONGEST: usize = 32768;
+// No line is longer: 49 packets, each with an agent and 16 waiters inside, take less.
+const LONGEST: usize = 49152;
 
 const ROOM: usize = 2 * LONGEST;
 

@@ -55,6 +55,18 @@ fn put_call(out: &mut [u8], at: usize, c: Call) -> usize {
             let k = put_field(out, at, b",\"kind\":\"deliver\",\"lock\":", lock.0 as u16);
             put_field(out, k, b",\"index\":", index as u16)
         }
+        Call::Lose { lock, index } => {
+            let k = put_field(out, at, b",\"kind\":\"lose\",\"lock\":", lock.0 as u16);
+            put_field(out, k, b",\"index\":", index as u16)
+        }
+        Call::GiveUp {
+            lock,
+            machine,
+            task,
+        } => {
+            let k = put_text(out, at, b",\"kind\":\"give up\"");
+            put_client(out, k, lock, machine, task)
+        }
     }
 }
 
@@ -99,6 +111,12 @@ fn put_named(out: &mut [u8], at: usize, c: Call, answer: u8, x: Cluster) -> usiz
             task: _,
         } => at,
         Call::Deliver { lock: _, index: _ } => at,
+        Call::Lose { lock: _, index: _ } => at,
+        Call::GiveUp {
+            lock: _,
+            machine: _,
+            task: _,
+        } => at,
     }
 }
 

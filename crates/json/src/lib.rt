@@ -179,6 +179,11 @@ fn put_reason(out: &mut [u8], at: usize, r: Reason) -> usize {
             let k = put_field(out, k, b",\"machine\":null,\"ahead\":", ahead as u16);
             put_text(out, k, b"}")
         }
+        Reason::GrantLost => put_text(
+            out,
+            at,
+            b"{\"kind\":\"grant lost\",\"index\":null,\"machine\":null,\"ahead\":null}",
+        ),
     }
 }
 
@@ -207,10 +212,12 @@ fn put_status(out: &mut [u8], at: usize, s: Status) -> usize {
     }
 }
 
-// A client's status, and why it waits.
+// A client's status, its note, and why it waits.
 fn put_client(out: &mut [u8], at: usize, c: ClientState, a: ReasonAnswer) -> usize {
     let s = c.status;
     let k = put_status(out, at, s);
+    let k = put_text(out, k, b",\"lost\":");
+    let k = put_bool(out, k, c.lost);
     let k = put_text(out, k, b",\"reason\":");
     let k = put_answer(out, k, a);
     put_text(out, k, b"}")

@@ -7,16 +7,17 @@ use native.Mathlib.Omega.{arith}
 use lib.ListN.{length}
 use lib.Seq.{getD-set-same, getD-set-other}
 use lib.Dec.{eqb, leb}
-use borrow.Author.Tests.{eqb-true, leb-true, leb-false, not-false}
+use borrow.Author.Tests.{eqb-true, leb-false, not-false}
 use Rattle.model.specs.Lists.{any, all, removed}
-use Rattle.laws.specs.Names.{LockId, MachineId, TaskId, ClientId, Mode, Packet, Status, Idle, Waiting, Holding, LockState, Cluster}
-use Rattle.laws.specs.Names.{Call, AcquireCall, ReleaseCall, DeliverCall, Refusal, Malformed, Answer, Accepted, Refused, Handling, None, Stepped, Outcome}
-use Rattle.model.specs.States.{clientOf, modeOf, modeNumber, statusOf, packets, lockIn, freshLock, locks, machines, tasks, wireCapacity}
+use Rattle.laws.specs.Names.{LockId, MachineId, TaskId, ClientId, Mode, Packet, Status, Idle, Waiting, Holding, LockState, Cluster, Call, AcquireCall}
+use Rattle.laws.specs.Names.{ReleaseCall, DeliverCall, LoseCall, GiveUpCall, Refusal, Malformed, Answer, Accepted, Refused, Handling, None, Stepped}
+use Rattle.laws.specs.Names.{Outcome}
+use Rattle.model.specs.States.{clientOf, modeOf, modeNumber, statusOf, packets, lockIn, freshLock, locks, machines, tasks, wireCapacity, isWaiting}
 use Rattle.model.specs.WellFormed.{wellFormed}
 use Rattle.model.specs.Changes.{Verdict, cannot-place, does, refused, finish, toldBy, telling}
 use Rattle.model.specs.Refusals.{refusalNumber, Cause, _when_, first}
-use Rattle.model.specs.Calls.{isIdle, isHolding, names, acquireStep, releaseStep, takes, deliverStep, refusing}
-use Rattle.model.specs.Calls.{settled, unless, acquire, release, deliver, perform, lockOf}
+use Rattle.model.specs.Calls.{isIdle, isHolding, names, acquireStep, releaseStep, takes, deliverStep, refusing, settled, unless, acquire, release, deliver}
+use Rattle.model.specs.Calls.{lose, giveUp, perform, lockOf, giveUpStep, drops, loseStep, canBeLost, packetAt}
 use Rattle.laws.specs.Tests.{and-left, and-right, bool-cases, pick-by}
 use Rattle.laws.specs.Formed.{cells}
 
@@ -25,6 +26,8 @@ abbrev pub stepOf : ℕ → Call → LockState → Stepped
 stepOf n (AcquireCall l k t m) s = acquireStep n s (clientOf k t) (modeOf m)
 stepOf n (ReleaseCall l k t) s = releaseStep n s (clientOf k t)
 stepOf n (DeliverCall l i) s = deliverStep n s i
+stepOf n (LoseCall l i) s = loseStep n s i
+stepOf n (GiveUpCall l k t) s = giveUpStep n s (clientOf k t)
 
 -- in its cluster
 abbrev pub stepIn : Call → Cluster → Stepped
@@ -41,9 +44,16 @@ pub data Allowed : Call → LockState → Type 0 where
   may-release : {l : LockId} {k : MachineId} {t : TaskId} {s : LockState} → k .0 < machines → t .0 < tasks → (n : Mode) → statusOf s (clientOf k t) ≡ Holding n
       → Allowed (ReleaseCall l k t) s
   may-deliver : {l : LockId} {i : ℕ} {s : LockState} → i < length (packets (s .wire)) → Allowed (DeliverCall l i) s
+  may-lose : {l : LockId} {i : ℕ} {s : LockState} → i < length (packets (s .wire)) → canBeLost (packetAt s i) ≡ true → Allowed (LoseCall l i) s
+  may-give-up : {l : LockId} {k : MachineId} {t : TaskId} {s : LockState} → k .0 < machines → t .0 < tasks → (n : Mode) → statusOf s (clientOf k t) ≡ Waiting n
+      → Allowed (GiveUpCall l k t) s
+
+-- the refusals that a test gives: 1 to 8, 17 and 18
+abbrev pub isEarly : ℕ → Bool
+isEarly n = (leb 1 n && leb n 8) || (eqb n 17 || eqb n 18)
 
 pub data CallCases (c : Call) (x : Cluster) : Type 0 where
-  denied : (r : Refusal) → 1 ≤ refusalNumber r → refusalNumber r ≤ 8 → perform c x ≡ refusing r x → CallCases c x
+  denied : (r : Refusal) → isEarly (refusalNumber r) ≡ true → perform c x ≡ refusing r x → CallCases c x
   passed : lockOf c .0 < locks → Allowed c (lockIn x (lockOf c)) → perform c x ≡ outcomeOf c x → CallCases c x
 
 -- ---- the first cause that holds
@@ -51,9 +61,8 @@ abbrev NoneHolds : List Cause → Type 0
 NoneHolds [] = Unit {0}
 NoneHolds ((r when b) ∷ cs) = (b ≡ false) × NoneHolds cs
 
--- refusals 1 to 8
 abbrev early : Cause → Bool
-early (r when b) = leb 1 (refusalNumber r) && leb (refusalNumber r) 8
+early (r when b) = isEarly (refusalNumber r)
 
 data Tested (cs : List Cause) : Type 0 where
   stops : (r : Refusal) → early (r when true) ≡ true → first cs ≡ Refused r → Tested cs
@@ -77,7 +86,7 @@ unfolding first unless
 cases-by c x cs w e q g = go (tested cs e)
   where
     go : Tested cs → CallCases c x
-    go (stops r h f) = denied r (leb-true 1 _ (and-left (leb 1 (refusalNumber r)) _ h)) (leb-true _ 8 (and-right (leb 1 (refusalNumber r)) _ h)) (q ∙ rw (w, f))
+    go (stops r h f) = denied r h (q ∙ rw (w, f))
     go (goes-on n f) = passed (g n .0) (g n .1) (q ∙ rw (w, f))
 
 is-idle : (st : Status) → not (isIdle st) ≡ false → st ≡ Idle
@@ -90,12 +99,17 @@ holds Idle e = absurd (false≢true e)
 holds (Waiting m) e = absurd (false≢true e)
 holds (Holding m) e = (m, refl)
 
+pub waits : (st : Status) → isWaiting st ≡ true → (n : Mode) × (st ≡ Waiting n)
+waits Idle e = absurd (false≢true e)
+waits (Waiting m) e = (m, refl)
+waits (Holding m) e = absurd (false≢true e)
+
 mode-number : (m : ℕ) → not (eqb m 2 || eqb m 3) ≡ false → modeNumber (modeOf m) ≡ m
 mode-number m e =
     pick-by (λ (n : Mode). modeNumber n ≡ m) (eqb m 2) (λ q. sym (eqb-true m 2 q)) (λ q. sym (eqb-true m 3 (rw q at (not-false (eqb m 2 || eqb m 3) e))))
 
 pub call-cases : (c : Call) (x : Cluster) → wellFormed x ≡ true → CallCases c x
-unfolding perform acquire release deliver
+unfolding perform acquire release deliver lose giveUp
 call-cases (AcquireCall l k t m) x w =
     cases-by (AcquireCall l k t m) x _ w refl refl (λ n. (
       leb-false locks _ (n .0),
@@ -107,6 +121,12 @@ call-cases (ReleaseCall l k t) x w =
     let h = holds _ (not-false _ (n .1 .1 .1 .0)) in
     (leb-false locks _ (n .0), may-release (leb-false machines _ (n .1 .0)) (leb-false tasks _ (n .1 .1 .0)) (h .0) (h .1)))
 call-cases (DeliverCall l i) x w = cases-by (DeliverCall l i) x _ w refl refl (λ n. (leb-false locks _ (n .0), may-deliver (leb-false _ i (n .1 .0))))
+call-cases (LoseCall l i) x w =
+    cases-by (LoseCall l i) x _ w refl refl (λ n. (leb-false locks _ (n .0), may-lose (leb-false _ i (n .1 .0)) (not-false _ (n .1 .1 .0))))
+call-cases (GiveUpCall l k t) x w =
+    cases-by (GiveUpCall l k t) x _ w refl refl (λ n.
+    let h = waits _ (not-false _ (n .1 .1 .1 .0)) in
+    (leb-false locks _ (n .0), may-give-up (leb-false machines _ (n .1 .0)) (leb-false tasks _ (n .1 .1 .0)) (h .0) (h .1)))
 
 -- ---- the frame: of other locks, and of the call's own
 settled-elsewhere : (a : Answer) (x : Cluster) (l : LockId) (t : Stepped) (j : LockId) → (j .0 ≡ l .0 → ⊥) → lockIn (settled a x l t .cluster) j ≡ lockIn x j
@@ -131,16 +151,20 @@ unless-preference Accepted x l t = settled-preference (t .answer) x l t
 unless-preference (Refused r) x l t = refl
 
 pub perform-preference : (c : Call) (x : Cluster) → perform c x .cluster .preference ≡ x .preference
-unfolding perform acquire release deliver
+unfolding perform acquire release deliver lose giveUp
 perform-preference (AcquireCall l k t m) x = unless-preference _ x l _
 perform-preference (ReleaseCall l k t) x = unless-preference _ x l _
 perform-preference (DeliverCall l i) x = unless-preference _ x l _
+perform-preference (LoseCall l i) x = unless-preference _ x l _
+perform-preference (GiveUpCall l k t) x = unless-preference _ x l _
 
 pub perform-elsewhere : (c : Call) (x : Cluster) (j : LockId) → (j .0 ≡ lockOf c .0 → ⊥) → lockIn (perform c x .cluster) j ≡ lockIn x j
-unfolding perform acquire release deliver
+unfolding perform acquire release deliver lose giveUp
 perform-elsewhere (AcquireCall l k t m) x j n = unless-elsewhere _ x l _ j n
 perform-elsewhere (ReleaseCall l k t) x j n = unless-elsewhere _ x l _ j n
 perform-elsewhere (DeliverCall l i) x j n = unless-elsewhere _ x l _ j n
+perform-elsewhere (LoseCall l i) x j n = unless-elsewhere _ x l _ j n
+perform-elsewhere (GiveUpCall l k t) x j n = unless-elsewhere _ x l _ j n
 
 -- a refused step leaves the state as it was, and tells no handling
 finish-refused : (k : MachineId) (c : ClientId) (w : Verdict) (rest : List Packet) (s : LockState) (r : Refusal) → finish k c w rest s .answer ≡ Refused r
@@ -172,9 +196,11 @@ telling-none k c w rest s =
     ap (λ (h : Handling). record { answer = t .answer; handling = h; state = t .state }) (told-none (t .answer) refl ∙ sym (finish-tells k c w rest s))
 
 pub step-refused : (n : ℕ) (c : Call) (s : LockState) (r : Refusal) → stepOf n c s .answer ≡ Refused r → stepOf n c s ≡ refused r s
-unfolding acquireStep releaseStep deliverStep takes
+unfolding acquireStep releaseStep deliverStep takes giveUpStep loseStep drops
 step-refused n (AcquireCall l k t m) s r e = finish-refused _ _ _ (packets (s .wire)) s r e
 step-refused n (ReleaseCall l k t) s r e = finish-refused _ _ _ (packets (s .wire)) s r e
+step-refused n (GiveUpCall l k t) s r e = finish-refused _ _ _ (packets (s .wire)) s r e
+step-refused n (LoseCall l i) s r e = finish-refused _ _ _ (removed (packets (s .wire)) i) s r e
 step-refused n (DeliverCall l i) s r e = ap (telling _) (finish-refused _ _ _ (removed (packets (s .wire)) i) s r e)
 
 settled-here : (a : Answer) (x : Cluster) (l : LockId) (t : Stepped) → l .0 < length (x .locks) → ((r : Refusal) → a ≡ Refused r → t ≡ refused r (lockIn x l))
@@ -204,10 +230,12 @@ pub record Passes (c : Call) (x : Cluster) : Type 0 where
   pub step : stepIn c x .answer ≡ Accepted
 
 malformed : (c : Call) (x : Cluster) → wellFormed x ≡ false → perform c x .answer ≡ Refused Malformed
-unfolding perform acquire release deliver unless first
+unfolding perform acquire release deliver lose giveUp unless first
 malformed (AcquireCall l k t m) x e = rw e
 malformed (ReleaseCall l k t) x e = rw e
 malformed (DeliverCall l i) x e = rw e
+malformed (LoseCall l i) x e = rw e
+malformed (GiveUpCall l k t) x e = rw e
 
 pub passes : (c : Call) (x : Cluster) → perform c x .answer ≡ Accepted → Passes c x
 passes c x e = go (call-cases c x w)
@@ -216,7 +244,7 @@ passes c x e = go (call-cases c x w)
     w = bool-cases (wellFormed x) (λ f. f) (λ f. absurd (not-accepted (sym (malformed c x f) ∙ e)))
 
     go : CallCases c x → Passes c x
-    go (denied r m n q) = absurd (not-accepted (sym (ap (λ (o : Outcome). o .answer) q) ∙ e))
+    go (denied r m q) = absurd (not-accepted (sym (ap (λ (o : Outcome). o .answer) q) ∙ e))
     go (passed h a q) =
         let s = stepIn c x in
         let f : s .answer ≡ Accepted = sym (settled-answer (s .answer) x (lockOf c) s) ∙ sym (ap (λ (o : Outcome). o .answer) q) ∙ e in

@@ -1,12 +1,15 @@
 -- What a search for the first that passes comes to, as a function of the list; so it is one thing alone.
-use mathlib.Core.Path.{_≡_, refl, sym}
+use mathlib.Core.Path.{_≡_, refl, sym, ap}
 use mathlib.Core.Bool.{Bool, true, false, false≢true}
 use mathlib.Core.List.{List, [], _∷_}
-use Prim.Native.Nat.{ℕ, zero, suc, _+_}
+use Prim.Native.Nat.{ℕ, zero, suc, _+_, _<_}
 use native.Mathlib.Omega.{arith}
-use lib.ListN.{take}
+use lib.ListN.{length, take}
 use Rattle.model.specs.declared.{Found.Found, Found.the-variants.{Nowhere, At}}
-use Rattle.model.specs.Lists.{pick, any, isAt, IsFirst}
+use Rattle.model.specs.Lists.{pick, any, isAt, removed, IsFirst}
+use Rattle.model.specs.WellFormed.{isClient}
+use Rattle.model.specs.AtMachine.{takenOff}
+use Rattle.laws.specs.Names.{ClientId, Waiter}
 use Rattle.laws.specs.Tests.{or-left, or-right}
 
 module _ {A : Type 0} (p : A → Bool) where
@@ -31,3 +34,25 @@ module _ {A : Type 0} (p : A → Bool) where
   pub first-is : (xs : List A) (f : Found) → IsFirst p xs f → f ≡ seek 0 xs
   first-is xs Nowhere h = sym (seek-none 0 xs h)
   first-is xs (At i) h = let here : 0 + i ≡ i = omega arith in rw here at (sym (seek-at 0 i xs (h .0) (h .1)))
+
+  -- what is found is within the list
+  pub first-below : (xs : List A) (i : ℕ) → IsFirst p xs (At i) → i < length xs
+  unfolding isAt
+  first-below [] i h = absurd (false≢true (h .0))
+  first-below (x ∷ xs) zero h = omega arith
+  first-below (x ∷ xs) (suc i) h = let below = first-below xs i (h .0, or-right (p x) _ (h .1)) in omega (arith, below)
+
+-- ---- a client is taken off a queue: the first who is it, or nobody
+pub off-first : (c : ClientId) (ws : List Waiter) (i : ℕ) → IsFirst (isClient c) ws (At i) → takenOff c ws ≡ removed ws i
+unfolding takenOff isAt removed
+off-first c [] i h = absurd (false≢true (h .0))
+off-first c (w ∷ ws) zero h = rw (h .0)
+off-first c (w ∷ ws) (suc i) h =
+    let other : isClient c w ≡ false = or-left (isClient c w) _ (h .1) in
+    rw other (ap (λ (xs : List Waiter). w ∷ xs) (off-first c ws i (h .0, or-right (isClient c w) _ (h .1))))
+
+pub off-none : (c : ClientId) (ws : List Waiter) → any (isClient c) ws ≡ false → takenOff c ws ≡ ws
+unfolding takenOff
+off-none c [] e = refl
+off-none c (w ∷ ws) e =
+    rw (or-left (isClient c w) _ e) (ap (λ (xs : List Waiter). w ∷ xs) (off-none c ws (or-right (isClient c w) _ e)))

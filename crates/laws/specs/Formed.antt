@@ -11,10 +11,11 @@ use borrow.Author.Tests.{eqb-true, leb-true, not-true}
 use Rattle.model.specs.Lists.{all, padded}
 use Rattle.laws.specs.Names.{LockId, MachineId, Mode, Exclusive, Shared, Address, ToDecider, ToMachine, Message, Free, Acquire, Grant, Release, Waiter}
 use Rattle.laws.specs.Names.{Queue, Agent, AgentSlot, Packet, Wire, LockState, Cluster}
-use Rattle.model.specs.States.{blankPacket, blankWaiter, packets, agentOn, noAgent, newAgent, queueOf, noHolders, isShared, freshLock, lockIn, locks, machines}
-use Rattle.model.specs.States.{clients, queueCapacity, wireCapacity, preferences}
+use Rattle.model.specs.States.{blankPacket, blankWaiter, packets, agentOn, noAgent, newAgent, queueOf, noHolders, isShared, freshLock, lockIn, locks}
+use Rattle.model.specs.States.{machines, idle, clients, queueCapacity, wireCapacity, preferences}
 use Rattle.model.specs.WellFormed.{shaped, isBlankWaiter, distinct, queueFormed, agentFormed, isBlankAgent, slotBy, slotFormed, isFree, toDecider}
-use Rattle.model.specs.WellFormed.{isBlankPacket, messageFormed, circledFormed, addressInRange, packetFormed, wireFormed, deciderFormed, lockFormed, wellFormed}
+use Rattle.model.specs.WellFormed.{isBlankPacket, messageFormed, circledFormed, addressInRange, packetFormed, wireFormed, deciderFormed, clientFormed}
+use Rattle.model.specs.WellFormed.{lockFormed, wellFormed}
 use Rattle.model.specs.Calls.{packetAt}
 use Rattle.laws.specs.Tests.{and-left, and-right}
 use Rattle.laws.specs.Lists.{getD-any, all-at, all-getD, all-same, Canonical}
@@ -145,6 +146,7 @@ pub record Parts (n : ℕ) (s : LockState) : Type 0 where
   pub all-machines : length (s .agents) ≡ machines
   pub agents : all slotFormed (s .agents) ≡ true
   pub all-clients : length (s .clients) ≡ clients
+  pub clients : all clientFormed (s .clients) ≡ true
   pub wire : wireFormed (s .wire) ≡ true
   pub packets : all packetFormed (packets (s .wire)) ≡ true
 
@@ -154,18 +156,25 @@ parts {n} s e =
     let e1 = and-right (deciderFormed n (s .decider)) _ e in
     let e2 = and-right (eqb (length (s .agents)) machines) _ e1 in
     let e3 = and-right (all slotFormed (s .agents)) _ e2 in
-    let w : wireFormed (s .wire) ≡ true = and-right (eqb (length (s .clients)) clients) _ e3 in
+    let e4 = and-right (eqb (length (s .clients)) clients) _ e3 in
+    let w : wireFormed (s .wire) ≡ true = and-right (all clientFormed (s .clients)) _ e4 in
     record {
       decider = and-left (deciderFormed n (s .decider)) _ e;
       all-machines = eqb-true (length (s .agents)) machines (and-left _ _ e1);
       agents = and-left _ _ e2;
       all-clients = eqb-true (length (s .clients)) clients (and-left _ _ e3);
+      clients = and-left _ _ e4;
       wire = w;
       packets = and-right (shaped wireCapacity isBlankPacket (s .wire .slots) (s .wire .len)) _ w;
     }
 
 pub agent-on : {n : ℕ} {s : LockState} → Parts n s → (k : MachineId) → slotFormed (agentOn s k) ≡ true
 agent-on {s = s} p k = all-getD slotFormed (s .agents) (k .0) noAgent (p .agents) no-agent-formed
+
+-- past the last, a client is idle and has no note
+pub client-of : {n : ℕ} {s : LockState} → Parts n s → (d : ℕ) → clientFormed (getD (s .clients) d idle) ≡ true
+unfolding clientFormed
+client-of {s = s} p d = all-getD clientFormed (s .clients) d idle (p .clients) refl
 
 pub packet-at : {n : ℕ} {s : LockState} → Parts n s → (i : ℕ) → i < length (packets (s .wire)) → Whole (packetAt s i)
 packet-at {s = s} p i h = whole-packet (packetAt s i) (all-at packetFormed (packets (s .wire)) i blankPacket (p .packets) h)

@@ -9,24 +9,24 @@ use lib.Dec.{leb}
 use borrow.Author.Tests.{eq-eqb, lt-ltb, leb-true, leb-false}
 use Rattle.model.specs.Lists.{pick, any, all, removed}
 use Rattle.laws.specs.Names.{MachineId, ClientId, Mode, Shared, Owner, Unowned, Owned, Waiter, Agent, AgentSlot, Address, ToDecider, ToMachine, Message}
-use Rattle.laws.specs.Names.{Free, Acquire, Grant, Release, Packet, Idle, Waiting, Site, LockState, Stepped}
+use Rattle.laws.specs.Names.{Free, Acquire, Grant, Release, Packet, Status, Idle, Waiting, ClientState, Site, LockState, Stepped}
 use Rattle.model.specs.States.{resent, queueOf, waiters, packets, someAgent, newAgent, machineOf, isShared, machines, clients, queueCapacity, wireCapacity}
-use Rattle.model.specs.States.{prefersWriters}
+use Rattle.model.specs.States.{prefersWriters, isWaiting}
 use Rattle.model.specs.WellFormed.{clientInRange, ownerInRange, addressInRange, isClient, waiterInRange, slotFormed, messageFormed, packetFormed, lockFormed}
-use Rattle.model.specs.WellFormed.{deciderFormed}
+use Rattle.model.specs.WellFormed.{deciderFormed, clientFormed}
 use Rattle.model.specs.Changes.{siteOf, withSlot, withStatus, Verdict, cannot-place, does, apply, finish}
 use Rattle.model.specs.Asking.{changed, queuing, noRoom, withRoom, mayJoin, clientAsks, clientAcquires, anyHolder, without, handOver, staysIf, leaves, lists}
-use Rattle.model.specs.Asking.{clientReleases, writerIn}
-use Rattle.model.specs.AtDecider.{toOwner, grantsWith, mayShare, decidesAcquire, current, decidesFree, decidesGrant, decides, atDecider}
+use Rattle.model.specs.Asking.{clientReleases, writerIn, clientGivesUp, grantIsLost}
+use Rattle.model.specs.AtDecider.{toOwner, decidesRelease, grantsWith, mayShare, decidesAcquire, current, decidesFree, decidesGrant, decides, atDecider}
 use Rattle.model.specs.AtMachine.{sentBack, admitted, grantOf, requeued, installs, grantArrives, rejectedGrantArrives, marked, unmarked, acquireArrives}
-use Rattle.model.specs.AtMachine.{releaseArrives, freeArrives, arrives, atMachine}
-use Rattle.model.specs.Calls.{delivers, packetAt, acquireStep, releaseStep, takes, deliverStep}
+use Rattle.model.specs.AtMachine.{queues, releaseArrives, freeArrives, arrives, atMachine}
+use Rattle.model.specs.Calls.{delivers, packetAt, acquireStep, releaseStep, takes, deliverStep, giveUpStep, drops, loseStep}
 use Rattle.laws.specs.Tests.{and-left, and-right, both, or-left, or-right, pick-by}
 use Rattle.laws.specs.Lists.{all-append, all-removed, all-set, left-out, whole, sublist-all}
-use Rattle.laws.specs.Formed.{Fit, fit, new-fit, no-agent-formed, Whole, Parts, parts, agent-on, packet-at, inParts}
-use Rattle.laws.specs.Making.{machine-in-range, Line, line, line-sublist, line-end, line-front, fit-line, fit-holder, some-agent-formed}
-use Rattle.laws.specs.Making.{packet-formed, plain-whole, carrying-whole, resent-whole, back-whole, wire-formed}
-use Rattle.laws.specs.Parting.{parting, sublists, length-joined}
+use Rattle.laws.specs.Formed.{Fit, fit, new-fit, no-agent-formed, Whole, Parts, parts, agent-on, client-of, packet-at, inParts}
+use Rattle.laws.specs.Making.{machine-in-range, Line, line, line-sublist, line-end, line-front, fit-line, fit-holder, some-agent-formed, packet-formed}
+use Rattle.laws.specs.Making.{plain-whole, carrying-whole, resent-whole, back-whole, wire-formed}
+use Rattle.laws.specs.Parting.{parting, sublists, length-joined, taken-off}
 
 -- every packet sent is well formed
 pub data Sends : List Packet → Type 0 where
@@ -38,19 +38,34 @@ sends-formed none = refl
 sends-formed (more {p} w e) = both (packetFormed p) _ (packet-formed w) (sends-formed e)
 
 -- ---- one law for every change
+-- the site's client
+abbrev pub clientAt : Site → ClientState
+clientAt v = record { status = v .status; lost = v .lost }
+
+unnoted : (st : Status) → clientFormed (record { status = st; lost = false }) ≡ true
+unfolding clientFormed
+unnoted st = refl
+
 pub data Sound (n : ℕ) : Verdict → Type 0 where
   refuses : Sound n cannot-place
-  keeps : {v : Site} {qs : List Packet} → deciderFormed n (v .decider) ≡ true → slotFormed (v .slot) ≡ true → Sends qs → Sound n (does v qs)
+  keeps : {v : Site} {qs : List Packet} → deciderFormed n (v .decider) ≡ true → clientFormed (clientAt v) ≡ true
+      → slotFormed (v .slot) ≡ true → Sends qs → Sound n (does v qs)
 
 module _ (n : ℕ) (s : LockState) (k : MachineId) (c : ClientId) where
   pub apply-formed : (v : Site) (qs rest : List Packet) → Parts n s → all packetFormed rest ≡ true → Sound n (does v qs)
       → length rest + length qs ≤ wireCapacity
       → lockFormed n (apply k c v qs rest s) ≡ true
   unfolding lockFormed
-  apply-formed v qs rest f g (keeps d x e) h =
+  apply-formed v qs rest f g (keeps d y x e) h =
       let all-machines : length (set (s .agents) (k .0) (v .slot)) ≡ machines = length-set (s .agents) _ _ ∙ f .all-machines in
-      let all-clients : length (set (s .clients) (c .0) (record { status = v .status })) ≡ clients = length-set (s .clients) _ _ ∙ f .all-clients in
-      rw (d, eq-eqb _ machines all-machines, all-set slotFormed (s .agents) (k .0) (v .slot) (f .agents) x, eq-eqb _ clients all-clients)
+      let all-clients : length (set (s .clients) (c .0) (clientAt v)) ≡ clients = length-set (s .clients) _ _ ∙ f .all-clients in
+      rw (
+        d,
+        eq-eqb _ machines all-machines,
+        all-set slotFormed (s .agents) (k .0) (v .slot) (f .agents) x,
+        eq-eqb _ clients all-clients,
+        all-set clientFormed (s .clients) (c .0) (clientAt v) (f .clients) y,
+      )
       (wire-formed (rest ++ qs) (all-append packetFormed rest qs g (sends-formed e)) (omega (arith, length-append rest qs)))
 
   pub finish-formed : (w : Verdict) (rest : List Packet) → lockFormed n s ≡ true → all packetFormed rest ≡ true → Sound n w
@@ -96,10 +111,11 @@ in-order false false e h = refl
 -- ---- the rules, clause by clause: of a site that is well formed
 pub record Set (v : Site) : Type 0 where
   pub decider : deciderFormed (v .preference) (v .decider) ≡ true
+  pub note : clientFormed (clientAt v) ≡ true
   pub slot : slotFormed (v .slot) ≡ true
 
 site-set : {n : ℕ} {s : LockState} → Parts n s → (k : MachineId) (c : ClientId) → Set (siteOf n s k c)
-site-set f k c = record { decider = f .decider; slot = agent-on f k }
+site-set f k c = record { decider = f .decider; note = client-of f (c .0); slot = agent-on f k }
 
 module _ (v : Site) (f : Set v) where
   abbrev Safe : Verdict → Type 0
@@ -113,7 +129,7 @@ module _ (v : Site) (f : Set v) where
 
   -- nothing but packets and a status
   sound-sends : {qs : List Packet} → Sends qs → Safe (does v qs)
-  sound-sends e = keeps (f .decider) (f .slot) e
+  sound-sends e = keeps (f .decider) (f .note) (f .slot) e
 
   module _ (a : Agent) (q : Fit a) (c : ClientId) (m : Mode) (h : clientInRange c ≡ true) where
     -- the queue becomes ws, where there is room for the client
@@ -122,7 +138,8 @@ module _ (v : Site) (f : Set v) where
     sound-queue ws g =
         let old = any (isClient c) (waiters (a .queue)) in
         choice (noRoom a c) (λ e. refuses)
-        (λ e. keeps (f .decider) (some-agent-formed (fit-line (q .all-clients) (g (or-left old _ e) (leb-false queueCapacity _ (or-right old _ e))))) none)
+        (λ e. keeps (f .decider) (f .note)
+        (some-agent-formed (fit-line (q .all-clients) (g (or-left old _ e) (leb-false queueCapacity _ (or-right old _ e))))) none)
 
     sound-queuing : Safe (withRoom a c (does (withSlot v (someAgent (queuing a c m))) []))
     sound-queuing = sound-queue _ (line-end (line (a .queue) (q .queue)) (record { client = c; mode = m }) h)
@@ -137,7 +154,7 @@ module _ (v : Site) (f : Set v) where
         let ws = waiters (a .queue) in
         let parted = sublists (parting m ws) in
         let n = length-joined _ (admitted m ws) ∙ (length-set (a .holders) (c .0) true ∙ q .all-clients) in
-        keeps (f .decider) (some-agent-formed (fit-line n (line-sublist (parted .1) l)))
+        keeps (f .decider) (unnoted _) (some-agent-formed (fit-line n (line-sublist (parted .1) l)))
         (grants-sent (admitted m ws) (sublist-all waiterInRange (parted .0) (l .ranged)))
 
   sound-leaves : (a : Agent) (c : ClientId) → Fit a → Safe (leaves v a c)
@@ -145,8 +162,10 @@ module _ (v : Site) (f : Set v) where
   sound-leaves a c q = go (anyHolder (without a c))
     where
       go : (b : Bool) → Safe (staysIf b v a (without a c))
-      go true = keeps (f .decider) (some-agent-formed (fit-holder q (c .0) false (a .incarnation))) none
-      go false = keeps (f .decider) no-agent-formed (more (hand-over a _ _ (fit-holder q (c .0) false 0 .all-clients) (line (a .queue) (q .queue))) none)
+      go true = keeps (f .decider) (f .note) (some-agent-formed (fit-holder q (c .0) false (a .incarnation))) none
+      go false =
+          keeps (f .decider) (f .note) no-agent-formed
+          (more (hand-over a _ _ (fit-holder q (c .0) false 0 .all-clients) (line (a .queue) (q .queue))) none)
 
   -- at the decider: sent on, or granted with an agent
   sound-to-owner : (o : Owner) (p : Packet) → Anywhere p → ownerInRange o ≡ true → Safe (toOwner o v p)
@@ -159,7 +178,7 @@ module _ (v : Site) (f : Set v) where
   unfolding messageFormed
   sound-grants c m a b h q w =
       let k = machine-in-range c h in
-      keeps (both _ (not b || prefersWriters (v .preference)) k w) (f .slot) (more (carrying-whole (both (clientInRange c) true h refl) k q) none)
+      keeps (both _ (not b || prefersWriters (v .preference)) k w) (f .note) (f .slot) (more (carrying-whole (both (clientInRange c) true h refl) k q) none)
 
   sound-decides-acquire : (o : Owner) (p : Packet) (c : ClientId) (m : Mode) (g : Bool) → clientInRange c ≡ true → Anywhere p → ownerInRange o ≡ true
       → Safe (decidesAcquire o v p c m g)
@@ -168,16 +187,21 @@ module _ (v : Site) (f : Set v) where
   sound-decides-acquire (Owned n k) p c m false h w i =
       choice (mayShare v m)
       (λ e. let g = both (clientInRange c) true h refl in
-      keeps (f .decider) (f .slot) (more (plain-whole _ _ g (machine-in-range c h)) (more (plain-whole _ _ g i) none)))
-      (λ e. keeps (both _ _ owner (in-order (v .decider .writer) (prefersWriters (v .preference)) (not (isShared m)) writer)) (f .slot)
+      keeps (f .decider) (f .note) (f .slot) (more (plain-whole _ _ g (machine-in-range c h)) (more (plain-whole _ _ g i) none)))
+      (λ e. keeps (both _ _ owner (in-order (v .decider .writer) (prefersWriters (v .preference)) (not (isShared m)) writer)) (f .note) (f .slot)
       (more (w (ToMachine k) i) none))
   sound-decides-acquire Unowned p c m true h w i = sound-to-owner Unowned p w i
   sound-decides-acquire (Owned n k) p c m true h w i = sound-to-owner (Owned n k) p w i
 
+  sound-decides-release : (o : Owner) (p : Packet) → Anywhere p → ownerInRange o ≡ true → Safe (decidesRelease o v p)
+  unfolding decidesRelease
+  sound-decides-release Unowned p w h = sound-sends (more (w ToDecider refl) none)
+  sound-decides-release (Owned n k) p w h = sound-sends (more (w (ToMachine k) h) none)
+
   -- at a machine: sent back, or taken
   sound-grant-arrives : (here b : Bool) (a : Agent) (c : ClientId) (m : Mode) → Fit a → clientInRange c ≡ true → Safe (grantArrives here b v a c m)
   unfolding grantArrives
-  sound-grant-arrives here false a c m q h = keeps (f .decider) (f .slot) none
+  sound-grant-arrives here false a c m q h = keeps (f .decider) (unnoted _) (f .slot) none
   sound-grant-arrives true true a c m q h = refuses
   sound-grant-arrives false true a c m q h = sound-installs a q c m h
 
@@ -191,20 +215,25 @@ module _ (v : Site) (f : Set v) where
   unfolding acquireArrives marked unmarked messageFormed
   sound-acquire-arrives false a p c m g q h w = sound-sends (more w none)
   sound-acquire-arrives true a p c m true q h w =
-      choice (isShared (a .mode)) (λ e. keeps (f .decider) (some-agent-formed (fit-holder q (c .0) true _)) none) (λ e. refuses)
+      choice (isShared (a .mode)) (λ e. keeps (f .decider) (f .note) (some-agent-formed (fit-holder q (c .0) true _)) none) (λ e. refuses)
   sound-acquire-arrives true a p c m false q h w =
       choice (mayJoin v m)
-      (λ e. keeps (f .decider) (some-agent-formed (fit-holder q (c .0) true _)) (more (plain-whole (Grant c m) ToDecider (rw h) refl) none))
+      (λ e. keeps (f .decider) (f .note) (some-agent-formed (fit-holder q (c .0) true _)) (more (plain-whole (Grant c m) ToDecider (rw h) refl) none))
       (λ e. sound-queuing a q c m h)
 
   sound-release-arrives : (p : Packet) (c : ClientId) → Whole (sentBack p) → Safe (releaseArrives v p c)
   unfolding releaseArrives
-  sound-release-arrives p c w = choice (lists (v .slot) c) (λ e. sound-leaves (v .slot .agent) c (fit _ (f .slot))) (λ e. sound-sends (more w none))
+  sound-release-arrives p c w =
+      let q = fit _ (f .slot) in
+      choice (lists (v .slot) c) (λ e. sound-leaves (v .slot .agent) c q)
+      (λ e. choice (queues (v .slot) c)
+      (λ e. keeps (f .decider) (f .note) (some-agent-formed (fit-line (q .all-clients) (line-sublist (taken-off c _) (line _ (q .queue))))) none)
+      (λ e. sound-sends (more w none)))
 
   sound-free-arrives : (here : Bool) (x : AgentSlot) → slotFormed x ≡ true → Safe (freeArrives here v x)
   unfolding freeArrives
   sound-free-arrives true x h = refuses
-  sound-free-arrives false x h = keeps (f .decider) h none
+  sound-free-arrives false x h = keeps (f .decider) (f .note) h none
 
   -- by the message, of the packet p; the Bool: it carries an agent
   module _ (p : Packet) where
@@ -227,14 +256,14 @@ module _ (v : Site) (f : Set v) where
     unfolding decidesFree messageFormed
     sound-decides-free b Unowned w h = refuses
     sound-decides-free b (Owned n k) w h =
-        choice (current (v .decider) (came Free b)) (λ y. keeps refl (f .slot) none)
+        choice (current (v .decider) (came Free b)) (λ y. keeps refl (f .note) (f .slot) none)
         (λ y. sound-sends (more (resent-whole w (rw (free-carries b (p .rejected) (p .to) (w .message))) h) none))
 
     sound-decides : (m : Message) (b : Bool) (o : Owner) → Whole (came m b) → ownerInRange o ≡ true → Safe (decides m o v (came m b))
     unfolding decides messageFormed
     sound-decides (Acquire c m g) b o w h = sound-decides-acquire o _ c m g (and-left (clientInRange c) _ (w .message)) (λ t i. resent-whole w (w .message) i) h
     sound-decides (Grant c m) b o w h = sound-decides-grant b c m o w h
-    sound-decides (Release c) b o w h = sound-to-owner o _ (λ t i. resent-whole w (w .message) i) h
+    sound-decides (Release c) b o w h = sound-decides-release o _ (λ t i. resent-whole w (w .message) i) h
     sound-decides Free b o w h = sound-decides-free b o w h
 
     sound-arrives : (m : Message) (b : Bool) → Whole (came m b) → Safe (arrives m v (came m b))
@@ -261,17 +290,29 @@ sound-client-asks : (v : Site) (f : Set v) (c : ClientId) (m : Mode) (b : Bool) 
     → Sound (v .preference) (clientAsks v c m b a)
 unfolding clientAsks messageFormed
 sound-client-asks v f c m true a h q =
-    choice (mayJoin v m) (λ e. keeps (f .decider) (some-agent-formed (fit-holder q (c .0) true (a .incarnation))) none)
-    (λ e. sound-queuing (withStatus v (Waiting m)) (record { decider = f .decider; slot = f .slot }) a q c m h)
-sound-client-asks v f c m false a h q = keeps (f .decider) (f .slot) (more (plain-whole (Acquire c m false) ToDecider (rw h) refl) none)
+    choice (mayJoin v m) (λ e. keeps (f .decider) (unnoted _) (some-agent-formed (fit-holder q (c .0) true (a .incarnation))) none)
+    (λ e. sound-queuing (withStatus v (Waiting m)) (record { decider = f .decider; note = unnoted _; slot = f .slot }) a q c m h)
+sound-client-asks v f c m false a h q = keeps (f .decider) (unnoted _) (f .slot) (more (plain-whole (Acquire c m false) ToDecider (rw h) refl) none)
 
 sound-client-releases : (v : Site) (f : Set v) (c : ClientId) → clientInRange c ≡ true → Sound (v .preference) (clientReleases v c)
 unfolding clientReleases messageFormed
 sound-client-releases v f c h =
-    choice (lists (v .slot) c) (λ e. sound-leaves (withStatus v Idle) (record { decider = f .decider; slot = f .slot }) _ c (fit _ (f .slot)))
-    (λ e. keeps (f .decider) (f .slot) (more (plain-whole (Release c) ToDecider (rw h) refl) none))
+    choice (lists (v .slot) c) (λ e. sound-leaves (withStatus v Idle) (record { decider = f .decider; note = unnoted _; slot = f .slot }) _ c (fit _ (f .slot)))
+    (λ e. keeps (f .decider) (unnoted _) (f .slot) (more (plain-whole (Release c) ToDecider (rw h) refl) none))
 
--- ---- the three steps
+sound-gives-up : (v : Site) (f : Set v) (c : ClientId) → clientInRange c ≡ true → Sound (v .preference) (clientGivesUp v c)
+unfolding clientGivesUp messageFormed
+sound-gives-up v f c h = keeps (f .decider) (unnoted _) (f .slot) (more (plain-whole (Release c) ToDecider (rw h) refl) none)
+
+sound-loses : (v : Site) (f : Set v) → Sound (v .preference) (grantIsLost v)
+unfolding grantIsLost clientFormed
+sound-loses v f = keeps (f .decider) (noted (isWaiting (v .status))) (f .slot) none
+  where
+    noted : (b : Bool) → (not b || b) ≡ true
+    noted true = refl
+    noted false = refl
+
+-- ---- the steps
 pub acquire-formed : (n : ℕ) (s : LockState) (c : ClientId) (m : Mode) → c .0 < clients → lockFormed n s ≡ true
     → lockFormed n (acquireStep n s c m .state) ≡ true
 unfolding acquireStep clientAcquires
@@ -293,3 +334,15 @@ deliver-formed n s i h f =
     let p = parts s f in
     finish-formed n s _ _ _ (removed (packets (s .wire)) i) f (all-removed packetFormed (packets (s .wire)) i (p .packets))
     (sound-delivers _ (site-set p _ _) (packetAt s i) (packet-at p i h))
+
+pub give-up-formed : (n : ℕ) (s : LockState) (c : ClientId) → c .0 < clients → lockFormed n s ≡ true → lockFormed n (giveUpStep n s c .state) ≡ true
+unfolding giveUpStep
+give-up-formed n s c h f =
+    let p = parts s f in
+    finish-formed n s _ _ _ (packets (s .wire)) f (p .packets) (sound-gives-up _ (site-set p (machineOf c) c) c (lt-ltb (c .0) clients h))
+
+pub lose-formed : (n : ℕ) (s : LockState) (i : ℕ) → lockFormed n s ≡ true → lockFormed n (loseStep n s i .state) ≡ true
+unfolding loseStep drops
+lose-formed n s i f =
+    let p = parts s f in
+    finish-formed n s _ _ _ (removed (packets (s .wire)) i) f (all-removed packetFormed (packets (s .wire)) i (p .packets)) (sound-loses _ (site-set p _ _))

@@ -7,6 +7,7 @@ pub use Rattle.model.specs.declared.{Message.the-variants.{Free, Acquire, Grant
 pub use Rattle.model.specs.declared.{Status.Status, Status.the-variants.{Idle, Waiting, Holding}, ClientState.ClientState, Site.Site, LockState.LockState}
 pub use Rattle.model.specs.declared.{Cluster.Cluster}
 pub use Rattle.model.specs.declared.{Call.Call, Call.the-variants.{Acquire as AcquireCall, Release as ReleaseCall, Deliver as DeliverCall}}
+pub use Rattle.model.specs.declared.{Call.the-variants.{Lose as LoseCall, GiveUp as GiveUpCall}}
 pub use Rattle.model.specs.declared.{Refusal.Refusal}
 pub use Rattle.model.specs.declared.{Refusal.the-variants.{Malformed}}
 pub use Rattle.model.specs.declared.{Answer.Answer}

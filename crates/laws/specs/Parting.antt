@@ -1,13 +1,14 @@
 -- Who leaves a queue when an agent is installed, and who stays in it.
-use mathlib.Core.Path.{_≡_, refl, _∙_}
+use mathlib.Core.Path.{_≡_, refl, ap, _∙_}
 use mathlib.Core.Bool.{Bool, true, false}
 use mathlib.Core.List.{List, [], _∷_}
 use lib.ListN.{length, set, length-set}
 use Rattle.model.specs.States.{isShared}
-use Rattle.model.specs.AtMachine.{admitted, staying, joined, mayLeave}
-use Rattle.laws.specs.Names.{Mode, Exclusive, Shared, Waiter}
+use Rattle.model.specs.AtMachine.{admitted, staying, joined, mayLeave, takenOff}
+use Rattle.model.specs.WellFormed.{isClient}
+use Rattle.laws.specs.Names.{ClientId, Mode, Exclusive, Shared, Waiter}
 use Rattle.laws.specs.Tests.{bool-cases, and-right}
-use Rattle.laws.specs.Lists.{Sublist, empty, kept, left-out}
+use Rattle.laws.specs.Lists.{Sublist, empty, kept, left-out, whole}
 
 -- A queue parted in two, each in the queue's order: those who leave are shared.
 pub data Parting : List Waiter → List Waiter → List Waiter → Type 0 where
@@ -56,3 +57,9 @@ pub length-joined : (hs : List Bool) (ws : List Waiter) → length (joined hs ws
 unfolding joined
 length-joined hs [] = refl
 length-joined hs (w ∷ ws) = length-joined (set hs (w .client .0) true) ws ∙ length-set hs (w .client .0) true
+
+-- who is left when a client is taken off
+pub taken-off : (c : ClientId) (ws : List Waiter) → Sublist (takenOff c ws) ws
+unfolding takenOff
+taken-off c [] = empty
+taken-off c (w ∷ ws) = bool-cases (isClient c w) (λ e. rw e (left-out (whole ws))) (λ e. rw e (kept (taken-off c ws)))

@@ -13,7 +13,7 @@ use Rattle.model.specs.declared.Replayed.{Replayed}
 use Rattle.model.specs.declared.Reading.{Reading}
 use Rattle.model.specs.declared.Reading.the-variants.{Record, Bad, End}
 use Rattle.model.specs.Calls.{perform, latest}
-use Rattle.model.specs.Transcripts.{short, acquireAt, releaseAt, deliverAt, wholeRecord, readRecord, replayed, replayFrom, callsFrom}
+use Rattle.model.specs.Transcripts.{short, acquireAt, releaseAt, deliverAt, loseAt, giveUpAt, wholeRecord, readRecord, replayed, replayFrom, callsFrom}
 use Rattle.model.specs.Listing.{kindOf, rowOf, lineOf, refusedLine, linesFrom}
 use Rattle.laws.specs.Tests.{and-right, pick-by}
 
@@ -39,7 +39,9 @@ module _ (bytes : List ℕ) (i : ℕ) where
       pick-by P (ltb (length bytes - i) 4) (λ e. bad) (λ e.
       pick-by P (eqb kind 1) (λ e. whole-ends 8 (acquireAt bytes i) (omega arith) h (sym (eqb-true kind 1 e))) (λ e.
       pick-by P (eqb kind 2) (λ e. whole-ends 7 (releaseAt bytes i) (omega arith) h (sym (eqb-true kind 2 e))) (λ e.
-      pick-by P (eqb kind 3) (λ e. whole-ends 6 (deliverAt bytes i) (omega arith) h (sym (eqb-true kind 3 e))) (λ e. bad)))))
+      pick-by P (eqb kind 3) (λ e. whole-ends 6 (deliverAt bytes i) (omega arith) h (sym (eqb-true kind 3 e))) (λ e.
+      pick-by P (eqb kind 6) (λ e. whole-ends 6 (loseAt bytes i) (omega arith) h (sym (eqb-true kind 6 e))) (λ e.
+      pick-by P (eqb kind 7) (λ e. whole-ends 7 (giveUpAt bytes i) (omega arith) h (sym (eqb-true kind 7 e))) (λ e. bad)))))))
 
   module _ (c : Call) (j : ℕ) (e : readRecord bytes i ≡ Record c j) where
     pub record-ends : (i + 6 ≤ j) × (j ≤ length bytes)

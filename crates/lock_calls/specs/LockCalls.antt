@@ -11,13 +11,13 @@ use borrow.Author.Tests.{le-leb, lt-leb, leb-false}
 use native.Mathlib.Omega.{arith}
 use Rattle.lock_calls.specs.Names.{LockId, MachineId, TaskId, Refusal, Malformed, LockRange, MachineRange, TaskRange}
 use Rattle.lock_calls.specs.Names.{Answer, Accepted, Refused, LockState, Cluster, Call, AcquireCall, ReleaseCall}
-use Rattle.lock_calls.specs.Names.{DeliverCall, Stepped, Outcome}
+use Rattle.lock_calls.specs.Names.{DeliverCall, LoseCall, GiveUpCall, Stepped, Outcome}
 use Rattle.model.specs.States.{locks, machines, tasks, clientOf, modeOf, freshLock, lockIn}
 use Rattle.model.specs.WellFormed.{wellFormed}
 use Rattle.model.specs.Changes.{refused}
 use Rattle.model.specs.Refusals.{Cause, _when_, first}
 use Rattle.model.specs.Calls.{acquireStep, releaseStep, deliverStep, acquireTests, releaseTests, deliverTests, causes, refusing, withLock, settled, unless}
-use Rattle.model.specs.Calls.{acquire, release, deliver, perform, lockOf}
+use Rattle.model.specs.Calls.{acquire, release, deliver, lose, giveUp, perform, lockOf, loseStep, giveUpStep, loseTests, giveUpTests}
 use Rattle.laws.specs.Formed.{lock-read}
 use Rattle.laws.specs.CallSteps.{stepOf, stepIn, step-refused}
 use Rattle.laws.specs.Clusters.{perform-formed}
@@ -38,6 +38,12 @@ releaseOn n s k t = stepUnless (first (releaseTests s k t)) s (releaseStep n s (
 
 unfoldable pub deliverOn : ℕ → LockState → ℕ → Stepped
 deliverOn n s i = stepUnless (first (deliverTests s i)) s (deliverStep n s i)
+
+unfoldable pub loseOn : ℕ → LockState → ℕ → Stepped
+loseOn n s i = stepUnless (first (loseTests s i)) s (loseStep n s i)
+
+unfoldable pub giveUpOn : ℕ → LockState → MachineId → TaskId → Stepped
+giveUpOn n s k t = stepUnless (first (giveUpTests s k t)) s (giveUpStep n s (clientOf k t))
 
 -- ---- the tests of machine and task, and those that follow
 abbrev pub rangeTests : MachineId → TaskId → List Cause → List Cause
@@ -71,6 +77,8 @@ abbrev pub testsOf : Call → LockState → List Cause
 testsOf (AcquireCall l k t m) s = acquireTests s k t m
 testsOf (ReleaseCall l k t) s = releaseTests s k t
 testsOf (DeliverCall l i) s = deliverTests s i
+testsOf (LoseCall l i) s = loseTests s i
+testsOf (GiveUpCall l k t) s = giveUpTests s k t
 
 unfoldable pub callOn : ℕ → Call → LockState → Stepped
 callOn n c s = stepUnless (first (testsOf c s)) s (stepOf n c s)
@@ -83,10 +91,12 @@ abbrev causesOf : Call → Cluster → List Cause
 causesOf c x = causes x (lockOf c) (testsOf c (lockIn x (lockOf c)))
 
 perform-by : (c : Call) (x : Cluster) → perform c x ≡ unless (first (causesOf c x)) x (lockOf c) (stepIn c x)
-unfolding perform acquire release deliver
+unfolding perform acquire release deliver lose giveUp
 perform-by (AcquireCall l k t m) x = refl
 perform-by (ReleaseCall l k t) x = refl
 perform-by (DeliverCall l i) x = refl
+perform-by (LoseCall l i) x = refl
+perform-by (GiveUpCall l k t) x = refl
 
 pub perform-malformed : (c : Call) (x : Cluster) → wellFormed x ≡ false → perform c x ≡ refusing Malformed x
 unfolding unless first

@@ -1,6 +1,7 @@
 // The calls on one lock's state that is known to be well formed, for runs of calls: the cluster is tested once, and every call keeps it well formed
 // (laws/specs/Clusters.antt). What is left of a call are its tests on that state, and its step. `plan_call` gives the answer and what is to be
 // written, and writes nothing; `carry_out` makes an accepted step; `lock_of` is the call's lock, whose range the caller tests.
+use model::Address;
 use model::Answer;
 use model::Call;
 use model::ClientId;
@@ -9,30 +10,37 @@ use model::LockId;
 use model::LockState;
 use model::MACHINES;
 use model::MachineId;
+use model::Message;
 use model::Mode;
+use model::Packet;
 use model::Refusal;
 use model::Status;
 use model::TASKS;
 use model::TaskId;
 use parts::search::first_naming;
 use parts::state::is_holding;
+use parts::state::is_waiting;
 use parts::state::status_at;
+use parts::wire::packet_at;
 use planning::plan::refuse;
 use planning::steps::plan_acquire;
 use planning::steps::plan_deliver;
+use planning::steps::plan_give_up;
+use planning::steps::plan_lose;
 use planning::steps::plan_release;
 ghost use mathlib.Core.Path.{_≡_};
-ghost use mathlib.Core.Bool.{true, _||_};
+ghost use mathlib.Core.Bool.{true, _||_, not};
 ghost use mathlib.Core.List.{List};
 ghost use Prim.Native.Nat.{_<_};
 ghost use lib.Dec.{eqb};
 ghost use Rattle.model.specs.States.{machines, tasks, clientOf, modeOf};
-ghost use Rattle.model.specs.WellFormed.{lockFormed};
+ghost use Rattle.model.specs.WellFormed.{toDecider, lockFormed};
 ghost use Rattle.model.specs.Refusals.{Cause, first};
-ghost use Rattle.model.specs.Calls.{isIdle, isHolding, idleTests, acquireTests, holdingTests, releaseTests, lockOf};
+ghost use Rattle.model.specs.Calls.{isIdle, isHolding, isGrant, canBeLost, idleTests, acquireTests, holdingTests, releaseTests, waitingTests, giveUpTests};
+ghost use Rattle.model.specs.Calls.{lockOf};
 ghost use Rattle.laws.specs.Shapes.{CanonicalWire};
 ghost use Rattle.planning.specs.Plans.{Plans};
-ghost use Rattle.lock_calls.specs.LockCalls.{rangeTests, further, acquireOn, releaseOn, deliverOn, callOn};
+ghost use Rattle.lock_calls.specs.LockCalls.{rangeTests, further, acquireOn, releaseOn, deliverOn, loseOn, giveUpOn, callOn};
 pub use planning::plan::Plan;
 pub use planning::plan::carry_out;
 
@@ -137,6 +145,68 @@ fn release_test(s: LockState, k: MachineId, t: TaskId) -> Answer
     }
 }
 
+fn waiting_test(s: LockState, c: ClientId) -> Answer
+    ensures { λ r. ⌜ r ≡ first (waitingTests s c) ⌝ }
+{
+    let clients = s.clients;
+    if is_waiting(status_at(clients, c)) {
+        Answer::Accepted
+    } else {
+        Answer::Refused(Refusal::CannotGiveUp)
+    }
+}
+
+fn give_up_test(s: LockState, k: MachineId, t: TaskId) -> Answer
+    ensures { λ r. ⌜ r ≡ first (giveUpTests s k t) ⌝ }
+{
+    let a = range_test(k, t);
+    match a {
+        Answer::Accepted => waiting_test(s, client_of(k, t)),
+        Answer::Refused(n) => Answer::Refused(n),
+    }
+}
+
+fn is_grant(m: Message) -> bool
+    ensures { λ r. ⌜ r ≡ isGrant m ⌝ }
+{
+    match m {
+        Message::Free => false,
+        Message::Acquire {
+            client: _,
+            mode: _,
+            granted: _,
+        } => false,
+        Message::Grant { client: _, mode: _ } => true,
+        Message::Release { client: _ } => false,
+    }
+}
+
+fn to_machine(to: Address) -> bool
+    ensures { λ r. ⌜ r ≡ not (toDecider to) ⌝ }
+{
+    match to {
+        Address::Decider => false,
+        Address::Machine(_) => true,
+    }
+}
+
+// A GRANT without agent, on its way to a machine.
+pub fn can_be_lost(p: Packet) -> bool
+    ensures { λ r. ⌜ r ≡ canBeLost p ⌝ }
+{
+    let m = p.message;
+    let to = p.to;
+    if is_grant(m) {
+        if p.carried.present {
+            false
+        } else {
+            to_machine(to)
+        }
+    } else {
+        false
+    }
+}
+
 // n is the cluster's preference.
 fn acquire_on(n: u8, s: LockState, k: MachineId, t: TaskId, m: u8) -> Plan
     requires { ⌜ lockFormed n s ≡ true ⌝ }
@@ -171,6 +241,32 @@ fn deliver_on(n: u8, s: LockState, i: u8) -> Plan
     }
 }
 
+fn lose_on(n: u8, s: LockState, i: u8) -> Plan
+    requires { ⌜ lockFormed n s ≡ true ⌝ }
+    ensures { λ r. ⌜ Plans r s (loseOn n s i) ⌝ }
+{
+    if i < s.wire.len {
+        if can_be_lost(packet_at(s.wire, i)) {
+            plan_lose(n, s, i)
+        } else {
+            refuse(Refusal::CannotLose)
+        }
+    } else {
+        refuse(Refusal::IndexRange)
+    }
+}
+
+fn give_up_on(n: u8, s: LockState, k: MachineId, t: TaskId) -> Plan
+    requires { ⌜ lockFormed n s ≡ true ⌝ }
+    ensures { λ r. ⌜ Plans r s (giveUpOn n s k t) ⌝ }
+{
+    let a = give_up_test(s, k, t);
+    match a {
+        Answer::Accepted => plan_give_up(n, s, client_of(k, t)),
+        Answer::Refused(r) => refuse(r),
+    }
+}
+
 pub fn lock_of(c: Call) -> LockId
     ensures { λ r. ⌜ r ≡ lockOf c ⌝ }
 {
@@ -187,6 +283,12 @@ pub fn lock_of(c: Call) -> LockId
             task: _,
         } => lock,
         Call::Deliver { lock, index: _ } => lock,
+        Call::Lose { lock, index: _ } => lock,
+        Call::GiveUp {
+            lock,
+            machine: _,
+            task: _,
+        } => lock,
     }
 }
 
@@ -208,5 +310,11 @@ pub fn plan_call(n: u8, c: Call, s: LockState) -> Plan
             task,
         } => release_on(n, s, machine, task),
         Call::Deliver { lock: _, index } => deliver_on(n, s, index),
+        Call::Lose { lock: _, index } => lose_on(n, s, index),
+        Call::GiveUp {
+            lock: _,
+            machine,
+            task,
+        } => give_up_on(n, s, machine, task),
     }
 }

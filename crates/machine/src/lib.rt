@@ -23,6 +23,8 @@ use parts::holders::set_holder;
 use queues::no_room;
 use queues::push;
 use queues::push_front;
+use queues::queued;
+use queues::taken_off;
 use rules::asking::may_join;
 use rules::asking::queue_last;
 use rules::effect::Effect;
@@ -37,14 +39,16 @@ use rules::leaving::listed;
 use rules::site::with_slot;
 use rules::site::with_status;
 ghost use mathlib.Core.Path.{_≡_};
+ghost use mathlib.Core.Bool.{_||_};
 ghost use mathlib.Core.List.{[]};
 ghost use Prim.Native.Nat.{_≤_};
 ghost use lib.ListN.{take};
 ghost use Rattle.model.specs.States.{queueCapacity, waiters, someAgent};
 ghost use Rattle.model.specs.Changes.{withSlot, does};
-ghost use Rattle.model.specs.Asking.{withRoom};
+ghost use Rattle.model.specs.Asking.{withRoom, lists};
+ghost use Rattle.model.specs.Lists.{pick};
 ghost use Rattle.model.specs.AtMachine.{oneMore, sentBack, installs, requeued, grantArrives, rejectedGrantArrives, marked, unmarked, acquireArrives};
-ghost use Rattle.model.specs.AtMachine.{releaseArrives, freeArrives, arrives, atMachine, handles};
+ghost use Rattle.model.specs.AtMachine.{grantedIn, queues, unqueuing, sendsBack, releaseArrives, freeArrives, arrives, atMachine, handles};
 ghost use Rattle.laws.specs.Shapes.{CanonicalQueue};
 ghost use Rattle.machine.specs.Names.{Exclusive, Shared, Release};
 ghost use Rattle.rules.specs.Effects.{verdictOf};
@@ -115,6 +119,17 @@ fn admit_queue(g: [bool; CLIENTS], q: Queue) -> Admission
     admit_all(t, slots, q.len as usize)
 }
 
+// What a GRANT makes of its client: it holds, unless it gave up.
+fn granted_in(m: Mode, st: Status) -> Status
+    ensures { λ r. ⌜ r ≡ grantedIn m st ⌝ }
+{
+    match st {
+        Status::Idle => Status::Idle,
+        Status::Waiting(_) => Status::Holding(m),
+        Status::Holding(_) => Status::Holding(m),
+    }
+}
+
 fn install_shared(v: Site, c: ClientId, a: Agent) -> Effect
     requires { ⌜ CanonicalQueue (a .queue) ⌝ }
     ensures { λ r. ⌜ verdictOf r ≡ installs v c Shared a ⌝ }
@@ -130,7 +145,8 @@ fn install_shared(v: Site, c: ClientId, a: Agent) -> Effect
         incarnation: a.incarnation,
     };
     let t = grants_to(r.admitted);
-    let st = Status::Holding(Mode::Shared);
+    let old = v.status;
+    let st = granted_in(Mode::Shared, old);
     doing(with_slot(with_status(v, st), some_agent(b)), t)
 }
 
@@ -147,7 +163,8 @@ fn install_exclusive(v: Site, c: ClientId, a: Agent) -> Effect
         queue: q,
         incarnation: a.incarnation,
     };
-    let st = Status::Holding(Mode::Exclusive);
+    let old = v.status;
+    let st = granted_in(Mode::Exclusive, old);
     let w = with_slot(with_status(v, st), some_agent(b));
     doing(w, no_packet())
 }
@@ -205,7 +222,9 @@ fn grant_arrives(v: Site, here: bool, x: AgentSlot, c: ClientId, m: Mode) -> Eff
             install(v, c, m, x.agent)
         }
     } else {
-        let w = with_status(v, Status::Holding(m));
+        let old = v.status;
+        let st = granted_in(m, old);
+        let w = with_status(v, st);
         doing(w, no_packet())
     }
 }
@@ -274,6 +293,39 @@ fn release_arrives(v: Site, p: Packet, c: ClientId) -> Effect
     if listed(x, c) {
         leave(v, x.agent, c)
     } else {
+        unlisted_arrives(v, p, c)
+    }
+}
+
+// An agent is there and has the client in its queue.
+fn queues(x: AgentSlot, c: ClientId) -> bool
+    requires { ⌜ CanonicalQueue (x .agent .queue) ⌝ }
+    ensures { λ r. ⌜ r ≡ queues x c ⌝ }
+{
+    let a = x.agent;
+    if x.present { queued(a, c) } else { false }
+}
+
+// The client is off the agent's queue.
+fn unqueue(v: Site, mut a: Agent, c: ClientId) -> Effect
+    requires { ⌜ CanonicalQueue (a .queue) ⌝ }
+    ensures { λ r. ⌜ verdictOf r ≡ does (withSlot v (someAgent (unqueuing a c))) [] ⌝ }
+{
+    a.queue = taken_off(a.queue, c);
+    let w = with_slot(v, some_agent(a));
+    doing(w, no_packet())
+}
+
+// A RELEASE of a client that is no holder here.
+fn unlisted_arrives(v: Site, p: Packet, c: ClientId) -> Effect
+    requires { ⌜ CanonicalQueue (v .slot .agent .queue) ⌝ }
+    ensures { λ r. ⌜ verdictOf r
+        ≡ pick (queues (v .slot) c) (does (withSlot v (someAgent (unqueuing (v .slot .agent) c))) []) (sendsBack v p) ⌝ }
+{
+    let x = v.slot;
+    if queues(x, c) {
+        unqueue(v, x.agent, c)
+    } else {
         sending(v, sent_back(p))
     }
 }
@@ -322,10 +374,11 @@ pub fn at_machine(v: Site, p: Packet) -> Effect
 
 // What the machine with this slot makes of a RELEASE.
 fn handling_of_release(x: AgentSlot, c: ClientId) -> Handling
+    requires { ⌜ CanonicalQueue (x .agent .queue) ⌝ }
     ensures { λ r. ⌜ r ≡ handles (Release c) x ⌝ }
 {
     if x.present {
-        if listed(x, c) {
+        if has(x, c) {
             Handling::Taken
         } else {
             Handling::NotHolder
@@ -335,8 +388,17 @@ fn handling_of_release(x: AgentSlot, c: ClientId) -> Handling
     }
 }
 
+// The slot's agent lists the client, or has it in its queue.
+fn has(x: AgentSlot, c: ClientId) -> bool
+    requires { ⌜ CanonicalQueue (x .agent .queue) ⌝ }
+    ensures { λ r. ⌜ r ≡ (lists x c || queues x c) ⌝ }
+{
+    if listed(x, c) { true } else { queues(x, c) }
+}
+
 // And of any message: why a request comes back.
 pub fn handling(m: Message, x: AgentSlot) -> Handling
+    requires { ⌜ CanonicalQueue (x .agent .queue) ⌝ }
     ensures { λ r. ⌜ r ≡ handles m x ⌝ }
 {
     match m {

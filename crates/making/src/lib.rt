@@ -38,6 +38,7 @@ fn fresh_lock() -> LockState
     let x = no_agent();
     let c = ClientState {
         status: Status::Idle,
+        lost: false,
     };
     let w = empty_wire();
     LockState {

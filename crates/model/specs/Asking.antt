@@ -8,9 +8,9 @@ use lib.Dec.{leb}
 use Rattle.model.specs.Lists.{pick, any}
 use Rattle.model.specs.Names.{ClientId, Mode, Waiter, Queue, Agent, AgentSlot, ToDecider, Message, Free, Acquire, Grant, Release, Packet, Idle, Waiting}
 use Rattle.model.specs.Names.{Holding, Site}
-use Rattle.model.specs.States.{queueCapacity, queueOf, waiters, someAgent, noAgent, listed, plain, carrying, isShared, prefersWriters}
+use Rattle.model.specs.States.{queueCapacity, queueOf, waiters, someAgent, noAgent, listed, plain, carrying, isShared, isWaiting, prefersWriters}
 use Rattle.model.specs.WellFormed.{isClient}
-use Rattle.model.specs.Changes.{Verdict, cannot-place, does, withSlot, withStatus}
+use Rattle.model.specs.Changes.{Verdict, cannot-place, does, withSlot, withStatus, withNote}
 
 -- the agent with other holders, queue and incarnation
 abbrev pub changed : Agent → List Bool → Queue → ℕ → Agent
@@ -87,3 +87,11 @@ clientReleases v c =
     pick (lists (v .slot) c)
     (leaves (withStatus v Idle) (v .slot .agent) c)
     (does (withStatus v Idle) (plain (Release c) ToDecider ∷ []))
+
+-- A client that waits gives up: it is idle from now on, and a RELEASE is to find whatever is left of its request (request 8 of document 02).
+unfoldable pub clientGivesUp : Site → ClientId → Verdict
+clientGivesUp v c = does (withStatus v Idle) (plain (Release c) ToDecider ∷ [])
+
+-- A GRANT is lost: its client is told nothing, and if it waits there is a note of that.
+unfoldable pub grantIsLost : Site → Verdict
+grantIsLost v = does (withNote v (isWaiting (v .status))) []

@@ -6,8 +6,8 @@ use mathlib.Core.List.{[], _∷_}
 use Prim.Native.Nat.{ℕ, _+_, _%_}
 use lib.Dec.{eqb}
 use Rattle.model.specs.Lists.{pick}
-use Rattle.model.specs.Names.{MachineId, ClientId, Mode, Shared, Owner, Unowned, Owned, Decider, Agent, ToMachine, Message, Free, Acquire, Grant, Release}
-use Rattle.model.specs.Names.{Packet, Site}
+use Rattle.model.specs.Names.{MachineId, ClientId, Mode, Shared, Owner, Unowned, Owned, Decider, Agent, ToDecider, ToMachine, Message, Free, Acquire}
+use Rattle.model.specs.Names.{Grant, Release, Packet, Site}
 use Rattle.model.specs.States.{newAgent, plain, carrying, resent, machineOf, isShared, unowned, prefersWriters}
 use Rattle.model.specs.Changes.{Verdict, cannot-place, does, withDecider}
 use Rattle.model.specs.Asking.{changed, writerIn}
@@ -64,6 +64,12 @@ decidesAcquire (Owned n k) v p c m false = pick (mayShare v m) (shares v c k) (t
 decidesAcquire Unowned v p c m true = toOwner Unowned v p
 decidesAcquire (Owned n k) v p c m true = toOwner (Owned n k) v p
 
+-- A RELEASE is for the agent too. At a free lock there is none: its client gave up, and its request is still under way. So the RELEASE goes to the wire's
+-- end, otherwise as it is, and comes to the decider again (request 8 of document 02).
+unfoldable pub decidesRelease : Owner → Site → Packet → Verdict
+decidesRelease Unowned v p = does v (resent p ToDecider (p .rejected) ∷ [])
+decidesRelease (Owned m k) v p = does v (sentOn p k ∷ [])
+
 -- the carried agent has counted as many grants as the decider
 abbrev pub current : Decider → Packet → Bool
 current d p = eqb (p .carried .agent .incarnation) (d .incarnation)
@@ -94,7 +100,7 @@ decidesGrant true (Owned n k) v p c m = pick (current (v .decider) p) (passesOn 
 unfoldable pub decides : Message → Owner → Site → Packet → Verdict
 decides (Acquire c m g) o v p = decidesAcquire o v p c m g
 decides (Grant c m) o v p = decidesGrant (p .carried .present) o v p c m
-decides (Release c) o v p = toOwner o v p
+decides (Release c) o v p = decidesRelease o v p
 decides Free o v p = decidesFree o v p
 
 unfoldable pub atDecider : Site → Packet → Verdict

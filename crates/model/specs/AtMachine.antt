@@ -1,12 +1,13 @@
 -- What a machine does with a packet (document 01, "At a machine"; Figure 7 and 4.2 of the source).
-use mathlib.Core.Bool.{Bool, true, false, _&&_}
+use mathlib.Core.Bool.{Bool, true, false, _&&_, _||_}
 use mathlib.Core.List.{List, [], _∷_, map}
 use Prim.Native.Nat.{ℕ, _+_, min}
 use lib.ListN.{set}
-use Rattle.model.specs.Lists.{pick}
-use Rattle.model.specs.Names.{ClientId, Mode, Shared, Waiter, Agent, AgentSlot, ToDecider, Message, Free, Acquire, Grant, Release, Packet, Holding, Site}
-use Rattle.model.specs.Names.{Handling, None, NoAgent, NotHolder, Taken}
+use Rattle.model.specs.Lists.{pick, any}
+use Rattle.model.specs.Names.{ClientId, Mode, Shared, Waiter, Agent, AgentSlot, ToDecider, Message, Free, Acquire, Grant, Release, Packet, Status, Idle}
+use Rattle.model.specs.Names.{Waiting, Holding, Site, Handling, None, NoAgent, NotHolder, Taken}
 use Rattle.model.specs.States.{queueOf, waiters, someAgent, plain, isShared}
+use Rattle.model.specs.WellFormed.{isClient}
 use Rattle.model.specs.Changes.{Verdict, cannot-place, does, withSlot, withStatus}
 use Rattle.model.specs.Asking.{changed, joining, queuing, withRoom, mayJoin, leaves, lists}
 use Rattle.model.specs.AtDecider.{next}
@@ -52,8 +53,14 @@ installed m c a =
       incarnation = a .incarnation;
     }
 
+-- What a GRANT in mode m makes of its client: it holds, unless it is idle. Then it gave up, and stays idle (request 8 of document 02).
+abbrev pub grantedIn : Mode → Status → Status
+grantedIn m Idle = Idle
+grantedIn m (Waiting n) = Holding m
+grantedIn m (Holding n) = Holding m
+
 unfoldable pub installs : Site → ClientId → Mode → Agent → Verdict
-installs v c m a = does (withSlot (withStatus v (Holding m)) (someAgent (installed m c a))) (map grantOf (admitted m (waiters (a .queue))))
+installs v c m a = does (withSlot (withStatus v (grantedIn m (v .status))) (someAgent (installed m c a))) (map grantOf (admitted m (waiters (a .queue))))
 
 -- Back from a GRANT that was rejected, with its client as the first in the queue again.
 abbrev pub requeued : Agent → ClientId → Mode → Agent
@@ -62,7 +69,7 @@ requeued a c m = changed a (a .holders) (queueOf (record { client = c; mode = m 
 -- A GRANT tells its client that it holds, and may bring the agent. A machine has no place for a second one. The Bools: an agent is here, one is
 -- carried.
 unfoldable pub grantArrives : Bool → Bool → Site → Agent → ClientId → Mode → Verdict
-grantArrives here false v a c m = does (withStatus v (Holding m)) []
+grantArrives here false v a c m = does (withStatus v (grantedIn m (v .status))) []
 grantArrives true true v a c m = cannot-place
 grantArrives false true v a c m = installs v c m a
 
@@ -92,9 +99,23 @@ acquireArrives false v a p c m g = sendsBack v p
 acquireArrives true v a p c m true = marked v a c
 acquireArrives true v a p c m false = unmarked v a c m
 
--- A RELEASE is for the agent that lists its client.
+-- A RELEASE is for the agent that lists its client, or has it in its queue: then the client gave up, and is taken off it. No agent leaves for that, and
+-- nobody behind it is admitted (request 8 of document 02).
+abbrev pub queues : AgentSlot → ClientId → Bool
+queues x c = x .present && any (isClient c) (waiters (x .agent .queue))
+
+unfoldable pub takenOff : ClientId → List Waiter → List Waiter
+takenOff c [] = []
+takenOff c (w ∷ ws) = pick (isClient c w) ws (w ∷ takenOff c ws)
+
+abbrev pub unqueuing : Agent → ClientId → Agent
+unqueuing a c = changed a (a .holders) (queueOf (takenOff c (waiters (a .queue)))) (a .incarnation)
+
 unfoldable pub releaseArrives : Site → Packet → ClientId → Verdict
-releaseArrives v p c = pick (lists (v .slot) c) (leaves v (v .slot .agent) c) (sendsBack v p)
+releaseArrives v p c =
+    pick (lists (v .slot) c)
+    (leaves v (v .slot .agent) c)
+    (pick (queues (v .slot) c) (does (withSlot v (someAgent (unqueuing (v .slot .agent) c))) []) (sendsBack v p))
 
 -- A FREE comes to a machine only when it was rejected: the agent is back as it left. A machine has no place for a second one.
 unfoldable pub freeArrives : Bool → Site → AgentSlot → Verdict
@@ -114,9 +135,9 @@ unfoldable pub atMachine : Site → Packet → Verdict
 atMachine v p = arrives (p .message) v p
 
 -- Why a request comes back (request 4 of document 02): what a machine with this slot makes of it. An ACQUIRE is for any agent, a RELEASE for the one that lists
--- its client. A GRANT and a FREE are no requests.
+-- or queues its client. A GRANT and a FREE are no requests.
 unfoldable pub handles : Message → AgentSlot → Handling
 handles (Acquire c m g) x = pick (x .present) Taken NoAgent
-handles (Release c) x = pick (x .present) (pick (lists x c) Taken NotHolder) NoAgent
+handles (Release c) x = pick (x .present) (pick (lists x c || queues x c) Taken NotHolder) NoAgent
 handles (Grant c m) x = None
 handles Free x = None

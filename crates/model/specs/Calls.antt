@@ -1,19 +1,20 @@
 -- The calls on a cluster, and lists of calls.
-use mathlib.Core.Bool.{Bool, true, false, _||_, not}
+use mathlib.Core.Bool.{Bool, true, false, _&&_, _||_, not}
 use mathlib.Core.List.{List, [], _∷_}
 use Prim.Native.Nat.{ℕ}
 use lib.ListN.{length, getD, set}
 use lib.Dec.{eqb, leb, ltb}
 use Rattle.model.specs.Lists.{pick, any, removed}
 use Rattle.model.specs.Names.{LockId, MachineId, TaskId, ClientId, Mode, Address, ToDecider, ToMachine, Message, Free, Acquire, Grant, Release, Packet}
-use Rattle.model.specs.Names.{Status, Idle, Waiting, Holding, LockState, Cluster, Call, AcquireCall, ReleaseCall, DeliverCall, Malformed, LockRange}
-use Rattle.model.specs.Names.{MachineRange, TaskRange, ModeRange, NotIdle, StillNamed, NotHolding, IndexRange, PreferenceRange, Refusal, Answer, Accepted}
-use Rattle.model.specs.Names.{Refused, AgentSlot, Handling, None, NoAgent, NotHolder, Taken, Stepped, Outcome, Site}
+use Rattle.model.specs.Names.{Status, Idle, Waiting, Holding, LockState, Cluster, Call, AcquireCall, ReleaseCall, DeliverCall, LoseCall, GiveUpCall}
+use Rattle.model.specs.Names.{MachineRange, TaskRange, ModeRange, NotIdle, StillNamed, NotHolding, IndexRange, PreferenceRange, Refusal, Answer}
+use Rattle.model.specs.Names.{Accepted, Malformed, LockRange, CannotGiveUp, CannotLose, Refused, AgentSlot, Handling, None, NoAgent, NotHolder, Taken}
+use Rattle.model.specs.Names.{Stepped, Outcome, Site}
 use Rattle.model.specs.States.{locks, machines, tasks, clientOf, machineOf, modeOf, statusOf, agentOn, packets, blankPacket, lockIn, freshWith}
-use Rattle.model.specs.States.{preferences}
-use Rattle.model.specs.WellFormed.{wellFormed}
+use Rattle.model.specs.States.{preferences, isWaiting}
+use Rattle.model.specs.WellFormed.{wellFormed, toDecider}
 use Rattle.model.specs.Changes.{siteOf, Verdict, finish, telling}
-use Rattle.model.specs.Asking.{clientAcquires, clientReleases}
+use Rattle.model.specs.Asking.{clientAcquires, clientReleases, clientGivesUp, grantIsLost}
 use Rattle.model.specs.AtDecider.{atDecider}
 use Rattle.model.specs.AtMachine.{atMachine, handles}
 use Rattle.model.specs.Refusals.{Cause, _when_, first}
@@ -80,6 +81,27 @@ takes n s p rest =
 unfoldable pub deliverStep : ℕ → LockState → ℕ → Stepped
 deliverStep n s i = takes n s (packetAt s i) (removed (packets (s .wire)) i)
 
+unfoldable pub giveUpStep : ℕ → LockState → ClientId → Stepped
+giveUpStep n s c = finish (machineOf c) c (clientGivesUp (siteOf n s (machineOf c) c) c) (packets (s .wire)) s
+
+-- the packet p is lost, the wire keeps the rest
+unfoldable pub drops : ℕ → LockState → Packet → List Packet → Stepped
+drops n s p rest =
+    finish (machineAt (p .to)) (clientNamed (p .message)) (grantIsLost (siteOf n s (machineAt (p .to)) (clientNamed (p .message)))) rest s
+
+unfoldable pub loseStep : ℕ → LockState → ℕ → Stepped
+loseStep n s i = drops n s (packetAt s i) (removed (packets (s .wire)) i)
+
+-- what can be lost: a GRANT without agent, on its way to a machine
+abbrev pub isGrant : Message → Bool
+isGrant (Acquire c m g) = false
+isGrant (Grant c m) = true
+isGrant (Release c) = false
+isGrant Free = false
+
+unfoldable pub canBeLost : Packet → Bool
+canBeLost p = isGrant (p .message) && (not (p .carried .present) && not (toDecider (p .to)))
+
 -- The causes of each call, in the order of their tests: of the cluster, of the call's numbers, of the lock's state. 9 and 10 come last, with the step.
 abbrev pub idleTests : LockState → ClientId → List Cause
 idleTests s c = (NotIdle when not (isIdle (statusOf s c))) ∷ (StillNamed when any (names c) (packets (s .wire))) ∷ []
@@ -99,6 +121,15 @@ releaseTests s k t = (MachineRange when leb machines (k .0)) ∷ (TaskRange when
 
 abbrev pub deliverTests : LockState → ℕ → List Cause
 deliverTests s i = (IndexRange when leb (length (packets (s .wire))) i) ∷ []
+
+abbrev pub loseTests : LockState → ℕ → List Cause
+loseTests s i = (IndexRange when leb (length (packets (s .wire))) i) ∷ (CannotLose when not (canBeLost (packetAt s i))) ∷ []
+
+abbrev pub waitingTests : LockState → ClientId → List Cause
+waitingTests s c = (CannotGiveUp when not (isWaiting (statusOf s c))) ∷ []
+
+abbrev pub giveUpTests : LockState → MachineId → TaskId → List Cause
+giveUpTests s k t = (MachineRange when leb machines (k .0)) ∷ (TaskRange when leb tasks (t .0)) ∷ waitingTests s (clientOf k t)
 
 abbrev pub causes : Cluster → LockId → List Cause → List Cause
 causes x l tests = (Malformed when not (wellFormed x)) ∷ (LockRange when leb locks (l .0)) ∷ tests
@@ -128,16 +159,26 @@ release x l k t = unless (first (causes x l (releaseTests (lockIn x l) k t))) x 
 unfoldable pub deliver : Cluster → LockId → ℕ → Outcome
 deliver x l i = unless (first (causes x l (deliverTests (lockIn x l) i))) x l (deliverStep (x .preference) (lockIn x l) i)
 
+unfoldable pub lose : Cluster → LockId → ℕ → Outcome
+lose x l i = unless (first (causes x l (loseTests (lockIn x l) i))) x l (loseStep (x .preference) (lockIn x l) i)
+
+unfoldable pub giveUp : Cluster → LockId → MachineId → TaskId → Outcome
+giveUp x l k t = unless (first (causes x l (giveUpTests (lockIn x l) k t))) x l (giveUpStep (x .preference) (lockIn x l) (clientOf k t))
+
 -- A call as data, and the lock that it is about.
 unfoldable pub perform : Call → Cluster → Outcome
 perform (AcquireCall l k t m) x = acquire x l k t m
 perform (ReleaseCall l k t) x = release x l k t
 perform (DeliverCall l i) x = deliver x l i
+perform (LoseCall l i) x = lose x l i
+perform (GiveUpCall l k t) x = giveUp x l k t
 
 abbrev pub lockOf : Call → LockId
 lockOf (AcquireCall l k t m) = l
 lockOf (ReleaseCall l k t) = l
 lockOf (DeliverCall l i) = l
+lockOf (LoseCall l i) = l
+lockOf (GiveUpCall l k t) = l
 
 -- Making a cluster is answered too: with the preference n, or refused with one that prefers readers.
 unfoldable pub fresh : ℕ → Outcome

@@ -1,12 +1,13 @@
--- The drain of a lock (document 01, "Draining a lock"): its packets are delivered and its holders release until nothing is left to do.
+-- The drain of a lock (document 01, "Draining a lock"): its packets are delivered, its holders release, and those whose GRANT was lost give up, until nothing
+-- is left to do.
 use mathlib.Core.Bool.{not}
 use mathlib.Core.List.{List, [], _∷_}
 use Prim.Native.Nat.{ℕ, zero, suc, _/_, _%_}
 use lib.ListN.{length}
 use lib.Dec.{leb}
 use Rattle.model.specs.Lists.{pick}
-use Rattle.model.specs.Names.{LockId, Packet, ClientState, LockState, Cluster, Call, ReleaseCall, DeliverCall, Refusal, Malformed, LockRange}
-use Rattle.model.specs.Names.{NotQuiescent, Answer, Accepted, Refused, None, Drained}
+use Rattle.model.specs.Names.{LockId, Packet, ClientState, LockState, Cluster, Call, ReleaseCall, DeliverCall, GiveUpCall, Refusal, Malformed}
+use Rattle.model.specs.Names.{LockRange, NotQuiescent, Answer, Accepted, Refused, None, Drained}
 use Rattle.model.specs.States.{locks, tasks, packets, lockIn}
 use Rattle.model.specs.WellFormed.{wellFormed}
 use Rattle.model.specs.Refusals.{_when_, first}
@@ -14,7 +15,7 @@ use Rattle.model.specs.Calls.{isHolding, perform, handlingsOf, lastTold}
 
 -- the steps that it may take
 abbrev pub allowance : ℕ
-allowance = 16384
+allowance = 32768
 
 -- the drain's next call, or none
 pub data Next : Type 0 where
@@ -27,9 +28,18 @@ releaseFirst l n [] = none
 releaseFirst l n (c ∷ cs) =
     pick (isHolding (c .status)) (some (ReleaseCall l (record { 0 = n / tasks }) (record { 0 = n % tasks }))) (releaseFirst l (suc n) cs)
 
--- Packets come first, from the front of the wire, and releases when there are none.
+-- the giving up by the first of them who has the note of a lost GRANT (request 8 of document 02)
+unfoldable pub giveUpFirst : LockId → ℕ → List ClientState → Next
+giveUpFirst l n [] = none
+giveUpFirst l n (c ∷ cs) = pick (c .lost) (some (GiveUpCall l (record { 0 = n / tasks }) (record { 0 = n % tasks }))) (giveUpFirst l (suc n) cs)
+
+abbrev pub orElse : Next → Next → Next
+orElse none n = n
+orElse (some c) n = some c
+
+-- Packets come first, from the front of the wire; releases when there are none; and giving up when nobody holds.
 unfoldable pub nextOf : LockId → List Packet → List ClientState → Next
-nextOf l [] cs = releaseFirst l 0 cs
+nextOf l [] cs = orElse (releaseFirst l 0 cs) (giveUpFirst l 0 cs)
 nextOf l (p ∷ ps) cs = some (DeliverCall l 0)
 
 abbrev pub nextCall : LockId → LockState → Next

@@ -7,7 +7,7 @@ use lib.ListN.{length, getD, drop}
 use lib.Dec.{eqb}
 use Rattle.model.specs.Lists.{pick, removed}
 use Rattle.model.specs.Names.{LockId, Address, ToDecider, ToMachine, Message, Free, Acquire, Grant, Release, Packet, LockState, Cluster, Call}
-use Rattle.model.specs.Names.{AcquireCall, ReleaseCall, DeliverCall}
+use Rattle.model.specs.Names.{AcquireCall, ReleaseCall, DeliverCall, LoseCall, GiveUpCall}
 use Rattle.model.specs.States.{modeNumber, packets, lockIn}
 use Rattle.model.specs.Calls.{packetAt, perform, lockOf, fresh}
 use Rattle.model.specs.Trace.{sameLock, isAccepted}
@@ -28,13 +28,13 @@ sameNumbers (m ∷ ms) (n ∷ ns) = eqb m n && sameNumbers ms ns
 abbrev pub sameMessage : Message → Message → Bool
 sameMessage m n = sameNumbers (messageNumbers m) (messageNumbers n)
 
--- A message that was delivered at one address and is sent to another: from a machine to the decider it comes back once more; from the decider to a machine it
--- is sent on.
+-- A message that was delivered at one address and is sent to another: from a machine to the decider it comes back once more; from the decider it is sent on to
+-- a machine, or to the wire's end, as a RELEASE at a free lock is.
 abbrev pub onward : Address → Address → ℕ → ℕ
 onward (ToMachine k) ToDecider n = n + 1
 onward ToDecider (ToMachine k) n = n
 onward (ToMachine k) (ToMachine j) n = 0
-onward ToDecider ToDecider n = 0
+onward ToDecider ToDecider n = n
 
 -- What the delivery of p, with the number n, sends: the same message again, or a new packet, as a marked copy is.
 abbrev pub numberOf : Packet → ℕ → Packet → ℕ
@@ -52,6 +52,8 @@ ownNumbers s t ns = ns ++ map (λ (q : Packet). 0) (sentBehind (length (packets 
 unfoldable pub numbersAfter : Call → LockState → LockState → List ℕ → List ℕ
 numbersAfter (AcquireCall l k c m) s t ns = ownNumbers s t ns
 numbersAfter (ReleaseCall l k c) s t ns = ownNumbers s t ns
+numbersAfter (GiveUpCall l k c) s t ns = ownNumbers s t ns
+numbersAfter (LoseCall l i) s t ns = removed ns i
 numbersAfter (DeliverCall l i) s t ns =
     removed ns i ++ map (numberOf (packetAt s i) (getD ns i 0)) (sentBehind (length (removed (packets (s .wire)) i)) t)
 

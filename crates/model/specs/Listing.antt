@@ -4,7 +4,8 @@ use Prim.Native.Nat.{ℕ, zero, suc, _+_, _/_, _%_, min}
 use lib.ListN.{length, set}
 use lib.Dec.{eqb, ltb}
 use Rattle.model.specs.Lists.{pick}
-use Rattle.model.specs.Names.{Cluster, Call, AcquireCall, ReleaseCall, DeliverCall, Refusal, BadRecord, Answer, Accepted, Refused, Record, Bad, End}
+use Rattle.model.specs.Names.{Cluster, Call, AcquireCall, ReleaseCall, DeliverCall, LoseCall, GiveUpCall, Refusal, BadRecord, Answer, Accepted, Refused}
+use Rattle.model.specs.Names.{Record, Bad, End}
 use Rattle.model.specs.States.{packets, lockIn}
 use Rattle.model.specs.Refusals.{number, refusalNumber, first}
 use Rattle.model.specs.Calls.{perform, lockOf}
@@ -39,6 +40,8 @@ abbrev pub kindOf : Call → ℕ
 kindOf (AcquireCall l k t m) = 1
 kindOf (ReleaseCall l k t) = 2
 kindOf (DeliverCall l i) = 3
+kindOf (LoseCall l i) = 6
+kindOf (GiveUpCall l k t) = 7
 
 abbrev pub rowOf : Call → Cluster → Row
 rowOf c x = record { kind = kindOf c; answer = perform c x .answer; wire = length (packets (lockIn (perform c x .cluster) (lockOf c) .wire)) }

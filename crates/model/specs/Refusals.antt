@@ -2,8 +2,9 @@
 use mathlib.Core.Bool.{Bool, true, false}
 use mathlib.Core.List.{List, [], _∷_}
 use Prim.Native.Nat.{ℕ}
-use Rattle.model.specs.Names.{Refusal, Malformed, LockRange, MachineRange, TaskRange, ModeRange, NotIdle, StillNamed, NotHolding, IndexRange, CannotPlace}
-use Rattle.model.specs.Names.{WireFull, BadRecord, TranscriptLength, NotQuiescent, NotWaiting, PreferenceRange, Answer, Accepted, Refused}
+use Rattle.model.specs.Names.{Refusal, Malformed, LockRange, MachineRange, TaskRange, ModeRange, NotIdle, StillNamed, NotHolding, IndexRange}
+use Rattle.model.specs.Names.{CannotPlace, WireFull, BadRecord, TranscriptLength, NotQuiescent, NotWaiting, PreferenceRange, CannotGiveUp, CannotLose}
+use Rattle.model.specs.Names.{Answer, Accepted, Refused}
 
 abbrev pub refusalNumber : Refusal → ℕ
 -- the cluster is not well formed
@@ -38,6 +39,10 @@ refusalNumber NotQuiescent = 14
 refusalNumber NotWaiting = 15
 -- a preference is for readers or for writers
 refusalNumber PreferenceRange = 16
+-- only who waits can give up
+refusalNumber CannotGiveUp = 17
+-- only a GRANT without agent that is on its way to a machine can be lost
+refusalNumber CannotLose = 18
 
 -- 0 is the number of Accepted alone.
 abbrev pub number : Answer → ℕ

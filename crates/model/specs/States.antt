@@ -5,8 +5,8 @@ use Prim.Native.Nat.{ℕ, _+_, _*_, _/_}
 use lib.ListN.{length, take, getD, replicate}
 use lib.Dec.{eqb}
 use Rattle.model.specs.Lists.{pick, padded}
-use Rattle.model.specs.Names.{LockId, MachineId, TaskId, ClientId, Mode, Exclusive, Shared, Unowned, Decider, Waiter, Queue, Agent}
-use Rattle.model.specs.Names.{AgentSlot, Address, ToDecider, Message, Free, Packet, Wire, Status, Idle, ClientState, LockState, Cluster}
+use Rattle.model.specs.Names.{LockId, MachineId, TaskId, ClientId, Mode, Exclusive, Shared, Unowned, Decider, Waiter, Queue, Agent, AgentSlot, Address}
+use Rattle.model.specs.Names.{ToDecider, Message, Free, Packet, Wire, Status, Idle, Waiting, Holding, ClientState, LockState, Cluster}
 
 -- How many there are of each. All are numbered from 0.
 abbrev pub locks : ℕ
@@ -74,16 +74,24 @@ agentOn s k = getD (s .agents) (k .0) noAgent
 abbrev pub listed : Agent → ClientId → Bool
 listed a c = getD (a .holders) (c .0) false
 
--- A client is idle, waits or holds, the last two in a mode.
+-- A client is idle, waits or holds, the last two in a mode. Who waits may have a note that its GRANT was lost (request 8 of document 02).
 abbrev pub idle : ClientState
-idle = record { status = Idle }
+idle = record { status = Idle; lost = false }
 
 abbrev pub statusOf : LockState → ClientId → Status
 statusOf s c = getD (s .clients) (c .0) idle .status
 
+abbrev pub noteOf : LockState → ClientId → Bool
+noteOf s c = getD (s .clients) (c .0) idle .lost
+
+abbrev pub isWaiting : Status → Bool
+isWaiting Idle = false
+isWaiting (Waiting m) = true
+isWaiting (Holding m) = false
+
 -- The wire: the packets under way, in the first slots of an array, by age.
 abbrev pub wireCapacity : ℕ
-wireCapacity = 33
+wireCapacity = 49
 
 -- Packets are made in three ways: new and without agent; new, with the agent inside; and the same again, for another address, with
 -- or without the mark of the rejected. A new one has not circled; the same again has, as often as before (request 7 of document 02).

@@ -5,8 +5,8 @@ use Prim.Native.Nat.{ℕ, zero, suc, _+_, _-_, _*_}
 use lib.ListN.{length, getD}
 use lib.Dec.{eqb, leb, ltb}
 use Rattle.model.specs.Lists.{pick}
-use Rattle.model.specs.Names.{Cluster, Call, AcquireCall, ReleaseCall, DeliverCall, Malformed, BadRecord, TranscriptLength, Answer, Accepted, Refused}
-use Rattle.model.specs.Names.{Handling, None, Reading, Record, Bad, End, Replayed}
+use Rattle.model.specs.Names.{Cluster, Call, AcquireCall, ReleaseCall, DeliverCall, LoseCall, GiveUpCall, Malformed, BadRecord, TranscriptLength}
+use Rattle.model.specs.Names.{Answer, Accepted, Refused, Handling, None, Reading, Record, Bad, End, Replayed}
 use Rattle.model.specs.WellFormed.{wellFormed}
 use Rattle.model.specs.Refusals.{Cause, _when_, first}
 use Rattle.model.specs.Calls.{perform, latest}
@@ -29,6 +29,12 @@ releaseAt bytes i = ReleaseCall (record { 0 = byteAt bytes (i + 4) }) (record { 
 abbrev pub deliverAt : List ℕ → ℕ → Call
 deliverAt bytes i = DeliverCall (record { 0 = byteAt bytes (i + 4) }) (byteAt bytes (i + 5))
 
+abbrev pub loseAt : List ℕ → ℕ → Call
+loseAt bytes i = LoseCall (record { 0 = byteAt bytes (i + 4) }) (byteAt bytes (i + 5))
+
+abbrev pub giveUpAt : List ℕ → ℕ → Call
+giveUpAt bytes i = GiveUpCall (record { 0 = byteAt bytes (i + 4) }) (record { 0 = byteAt bytes (i + 5) }) (record { 0 = byteAt bytes (i + 6) })
+
 -- a record of n bytes, where so many are left and its length says so
 abbrev pub wholeRecord : ℕ → List ℕ → ℕ → Call → Reading
 wholeRecord n bytes i c = pick (eqb (short bytes i) n && leb n (length bytes - i)) (Record c (i + n)) Bad
@@ -41,7 +47,9 @@ readRecord bytes i =
     (pick (ltb (length bytes - i) 4) Bad
     (pick (eqb (short bytes (i + 2)) 1) (wholeRecord 8 bytes i (acquireAt bytes i))
     (pick (eqb (short bytes (i + 2)) 2) (wholeRecord 7 bytes i (releaseAt bytes i))
-    (pick (eqb (short bytes (i + 2)) 3) (wholeRecord 6 bytes i (deliverAt bytes i)) Bad))))
+    (pick (eqb (short bytes (i + 2)) 3) (wholeRecord 6 bytes i (deliverAt bytes i))
+    (pick (eqb (short bytes (i + 2)) 6) (wholeRecord 6 bytes i (loseAt bytes i))
+    (pick (eqb (short bytes (i + 2)) 7) (wholeRecord 7 bytes i (giveUpAt bytes i)) Bad))))))
 
 -- What a reading gives the run. A record has no number of its own: its call is run, whatever that answers, and the run goes on at the position behind it.
 -- The other two end the run with an answer (a bad record's number is 12, the end's is 0) and add so many to the records counted.

@@ -8,8 +8,8 @@ use lib.ListN.{length, take, drop}
 use lib.Dec.{eqb, leb, ltb}
 use Rattle.model.specs.Lists.{any, all}
 use Rattle.model.specs.Names.{MachineId, ClientId, Owner, Unowned, Owned, Decider, Waiter, Queue, Agent, AgentSlot, Address, ToDecider, ToMachine}
-use Rattle.model.specs.Names.{Message, Free, Acquire, Grant, Release, Packet, Wire, LockState, Cluster}
-use Rattle.model.specs.States.{locks, machines, clients, queueCapacity, wireCapacity, isShared, preferences, prefersWriters}
+use Rattle.model.specs.Names.{Message, Free, Acquire, Grant, Release, Packet, Wire, ClientState, LockState, Cluster}
+use Rattle.model.specs.States.{locks, machines, clients, queueCapacity, wireCapacity, isShared, isWaiting, preferences, prefersWriters}
 
 -- numbers that are some machine's, some client's
 abbrev pub machineInRange : MachineId → Bool
@@ -111,12 +111,16 @@ isBlankPacket p =
 unfoldable pub wireFormed : Wire → Bool
 wireFormed w = shaped wireCapacity isBlankPacket (w .slots) (w .len) && all packetFormed (take (w .len) (w .slots))
 
+-- Only who waits has the note of a lost GRANT.
+unfoldable pub clientFormed : ClientState → Bool
+clientFormed x = not (x .lost) || isWaiting (x .status)
+
 -- A lock's state: every part of it, and as many agents and statuses as there are machines and clients.
 unfoldable pub lockFormed : ℕ → LockState → Bool
 lockFormed n s =
     deciderFormed n (s .decider)
     && (eqb (length (s .agents)) machines
-    && (all slotFormed (s .agents) && (eqb (length (s .clients)) clients && wireFormed (s .wire))))
+    && (all slotFormed (s .agents) && (eqb (length (s .clients)) clients && (all clientFormed (s .clients) && wireFormed (s .wire)))))
 
 unfoldable pub wellFormed : Cluster → Bool
 wellFormed x = ltb (x .preference) preferences && (eqb (length (x .locks)) locks && all (lockFormed (x .preference)) (x .locks))

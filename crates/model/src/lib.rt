@@ -16,13 +16,13 @@ pub const CLIENTS: usize = MACHINES * TASKS;
 
 pub const QUEUE_CAPACITY: usize = 16;
 
-pub const WIRE_CAPACITY: usize = 33;
+pub const WIRE_CAPACITY: usize = 49;
 
 // A cluster prefers readers, 0, or writers, 1.
 pub const PREFERENCES: u8 = 2;
 
 // The steps that a drain may take (specs/Drain.antt).
-pub const ALLOWANCE: u16 = 16384;
+pub const ALLOWANCE: u16 = 32768;
 
 // The source's lid, mid and tid: no place that wants one takes another.
 pub struct LockId(pub u8);
@@ -118,16 +118,20 @@ pub enum Status {
     Holding(Mode),
 }
 
+// lost: it waits, and its GRANT was lost.
 pub struct ClientState {
     pub status: Status,
+    pub lost: bool,
 }
 
-// What a step looks at: the cluster's preference; and what it may write of a lock's record: the decider, one machine's agent or none, one client's status.
+// What a step looks at: the cluster's preference; and what it may write of a lock's record: the decider, one machine's agent or none, one client's status
+// and its note.
 pub struct Site {
     pub preference: u8,
     pub decider: Decider,
     pub slot: AgentSlot,
     pub status: Status,
+    pub lost: bool,
 }
 
 // A lock's record in document 01. The wire, nine tenths of it, comes first: so the compiler makes a new state where it is to be, and saves a copy.
@@ -161,6 +165,15 @@ pub enum Call {
         lock: LockId,
         index: u8,
     },
+    Lose {
+        lock: LockId,
+        index: u8,
+    },
+    GiveUp {
+        lock: LockId,
+        machine: MachineId,
+        task: TaskId,
+    },
 }
 
 // One for each row of the table of refusals.
@@ -181,6 +194,8 @@ pub enum Refusal {
     NotQuiescent,
     NotWaiting,
     PreferenceRange,
+    CannotGiveUp,
+    CannotLose,
 }
 
 pub enum Answer {
@@ -189,13 +204,14 @@ pub enum Answer {
 }
 
 // Why a client waits: its ACQUIRE, its GRANT or its rejected GRANT is on the wire, at an index; or it stands in the queue of the agent on a machine, or of
-// the one carried by the packet at an index, with so many ahead.
+// the one carried by the packet at an index, with so many ahead; or its GRANT was lost.
 pub enum Reason {
     Requested { index: u8 },
     Granted { index: u8 },
     Rejected { index: u8 },
     Queued { machine: MachineId, ahead: u8 },
     Carried { index: u8, ahead: u8 },
+    GrantLost,
 }
 
 // What the question for the reason is answered.
@@ -210,8 +226,8 @@ pub enum Found {
     At(u8),
 }
 
-// What a machine made of an ACQUIRE or RELEASE that was delivered to it: it has no agent; it has one that does not list the client of the RELEASE; or it took
-// it. None: the step was no such delivery, or was refused.
+// What a machine made of an ACQUIRE or RELEASE that was delivered to it: it has no agent; it has one that neither lists nor queues the client of the
+// RELEASE; or it took it. None: the step was no such delivery, or was refused.
 pub enum Handling {
     None,
     NoAgent,
@@ -293,6 +309,8 @@ impl Refusal {
             Refusal::NotQuiescent => 14,
             Refusal::NotWaiting => 15,
             Refusal::PreferenceRange => 16,
+            Refusal::CannotGiveUp => 17,
+            Refusal::CannotLose => 18,
         }
     }
 }

@@ -56,10 +56,10 @@ cut-off w i h = go (leb (w .len) i) refl
         let k : i < w .len = leb-false (w .len) i e in
         rw (e, cutAt-in (w .slots) i (w .len) blankPacket k) (taken-off w i h k)
 
-pub popped : (q : Queue) → CanonicalQueue q → 0 < q .len
-    → record { slots = cutUsed (q .slots) 0 (q .len) blankWaiter; len = q .len - 1 } ≡ queueOf (removed (waiters q) 0)
+pub cut-out : (q : Queue) (i : ℕ) → CanonicalQueue q → i < q .len
+    → record { slots = cutUsed (q .slots) i (q .len) blankWaiter; len = q .len - 1 } ≡ queueOf (removed (waiters q) i)
 unfolding waiters queueOf
-popped q h k = rw (sized-less (take (q .len) (q .slots)) 0 (q .len) (h .size) k, canonical-cut queueCapacity blankWaiter (q .slots) (q .len) h 0 k)
+cut-out q i h k = rw (sized-less (take (q .len) (q .slots)) i (q .len) (h .size) k, canonical-cut queueCapacity blankWaiter (q .slots) (q .len) h i k)
 
 pub fronted : (q : Queue) (a : Waiter) → CanonicalQueue q → q .len < queueCapacity
     → record { slots = slid (q .slots) (q .len) a; len = q .len + 1 } ≡ queueOf (a ∷ waiters q)

@@ -9,7 +9,7 @@ use model::MachineId;
 use model::Status;
 ghost use mathlib.Core.Path.{_≡_};
 ghost use lib.ListN.{set, getD};
-ghost use Rattle.model.specs.States.{noAgent, idle};
+ghost use Rattle.model.specs.States.{noAgent, idle, isWaiting};
 ghost use Rattle.model.specs.Calls.{isHolding};
 
 pub fn agent_at(a: [AgentSlot; MACHINES], k: MachineId) -> AgentSlot
@@ -42,13 +42,34 @@ pub fn status_at(a: [ClientState; CLIENTS], c: ClientId) -> Status
     }
 }
 
-pub fn put_status(a: [ClientState; CLIENTS], c: ClientId, st: Status) -> [ClientState; CLIENTS]
-    ensures { λ r. ⌜ r ≡ set a (c .0) (record { status = st }) ⌝ }
+// Whether it has the note of a lost GRANT.
+pub fn note_at(a: [ClientState; CLIENTS], c: ClientId) -> bool
+    ensures { λ r. ⌜ r ≡ getD a (c .0) idle .lost ⌝ }
+{
+    let i = c.0 as usize;
+    if i < CLIENTS {
+        let x = a[i];
+        x.lost
+    } else {
+        false
+    }
+}
+
+pub fn put_client(
+    a: [ClientState; CLIENTS],
+    c: ClientId,
+    st: Status,
+    n: bool,
+) -> [ClientState; CLIENTS]
+    ensures { λ r. ⌜ r ≡ set a (c .0) (record { status = st; lost = n }) ⌝ }
 {
     let mut b = a;
     let i = c.0 as usize;
     if i < CLIENTS {
-        b[i] = ClientState { status: st };
+        b[i] = ClientState {
+            status: st,
+            lost: n,
+        };
     }
     b
 }
@@ -60,5 +81,15 @@ pub fn is_holding(st: Status) -> bool
         Status::Idle => false,
         Status::Waiting(_) => false,
         Status::Holding(_) => true,
+    }
+}
+
+pub fn is_waiting(st: Status) -> bool
+    ensures { λ r. ⌜ r ≡ isWaiting st ⌝ }
+{
+    match st {
+        Status::Idle => false,
+        Status::Waiting(_) => true,
+        Status::Holding(_) => false,
     }
 }

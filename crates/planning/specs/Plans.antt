@@ -71,6 +71,11 @@ pub plans-effect : (k : MachineId) (c : ClientId) (e : Effect) (u : Handling) (i
 unfolding endsWith
 plans-effect k c e u i s p h = record { ends = ap (telling u) (finish-fits k c e (removed (packets (s .wire)) i) s p h); fits = λ q. h }
 
+-- a step that tells no handling
+pub plans-quiet : (p : Plan) (s : LockState) (k : MachineId) (c : ClientId) (v : Verdict) (rest : List Packet) → Plans p s (telling None (finish k c v rest s))
+    → Plans p s (finish k c v rest s)
+plans-quiet p s k c v rest h = rw (telling-none k c v rest s) at h
+
 -- a client's call takes no packet off the wire, and tells no handling
 pub plans-call : (p : Plan) (s : LockState) (k : MachineId) (c : ClientId) (v : Verdict) → CanonicalWire (s .wire)
     → (length (removed (packets (s .wire)) wireCapacity) ≡ s .wire .len → Plans p s (telling None (finish k c v (removed (packets (s .wire)) wireCapacity) s)))

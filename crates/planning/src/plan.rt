@@ -15,7 +15,7 @@ use model::Waiter;
 use model::Wire;
 use parts::blank::plain_packet;
 use parts::state::put_agent;
-use parts::state::put_status;
+use parts::state::put_client;
 use parts::wire::take_off;
 use rules::effect::Effect;
 use rules::effect::Sends;
@@ -125,7 +125,7 @@ fn apply(k: MachineId, u: ClientId, e: Effect, rest: Wire, s: LockState) -> Lock
     let agents = s.agents;
     let clients = s.clients;
     let a = put_agent(agents, k, v.slot);
-    let c = put_status(clients, u, st);
+    let c = put_client(clients, u, st, v.lost);
     let w = post(rest, e.sends);
     LockState {
         decider: d,

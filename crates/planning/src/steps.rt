@@ -18,12 +18,14 @@ use model::Site;
 use parts::wire::packet_at;
 use rules::asking::acquire;
 use rules::effect::Effect;
+use rules::leaving::give_up;
+use rules::leaving::lose;
 use rules::leaving::machine_of;
 use rules::leaving::release;
 use rules::site::site_of;
 ghost use mathlib.Core.Path.{_≡_};
 ghost use Prim.Native.Nat.{_<_};
-ghost use Rattle.model.specs.Calls.{handledAt, machineAt, clientNamed, delivers, acquireStep, releaseStep, deliverStep};
+ghost use Rattle.model.specs.Calls.{handledAt, machineAt, clientNamed, delivers, acquireStep, releaseStep, deliverStep, giveUpStep, loseStep};
 ghost use Rattle.laws.specs.Shapes.{CanonicalQueue};
 ghost use Rattle.laws.specs.Formed.{Ready};
 ghost use Rattle.rules.specs.Effects.{verdictOf};
@@ -51,7 +53,18 @@ pub fn plan_release(n: u8, s: LockState, c: ClientId) -> Plan
     plan_effect(k, c, e, Handling::None, NONE_OFF, s.wire.len)
 }
 
-// The machine and the client that a delivery is about.
+// A client that waits gives up.
+pub fn plan_give_up(n: u8, s: LockState, c: ClientId) -> Plan
+    requires { ⌜ Ready s ⌝ }
+    ensures { λ r. ⌜ Plans r s (giveUpStep n s c) ⌝ }
+{
+    let k = machine_of(c);
+    let v = site_of(n, s, k, c);
+    let e = give_up(v, c);
+    plan_effect(k, c, e, Handling::None, NONE_OFF, s.wire.len)
+}
+
+// The machine and the client that a packet is about, delivered or lost.
 fn machine_at(to: Address) -> MachineId
     ensures { λ r. ⌜ r ≡ machineAt to ⌝ }
 {
@@ -89,6 +102,7 @@ fn deliver(to: Address, v: Site, p: Packet) -> Effect
 
 // What the delivery tells: a machine's handling. The decider tells none.
 fn handled_at(to: Address, m: Message, x: AgentSlot) -> Handling
+    requires { ⌜ CanonicalQueue (x .agent .queue) ⌝ }
     ensures { λ r. ⌜ r ≡ handledAt to m x ⌝ }
 {
     match to {
@@ -110,4 +124,19 @@ pub fn plan_deliver(n: u8, s: LockState, i: u8) -> Plan
     let h = handled_at(to, m, v.slot);
     let e = deliver(to, v, p);
     plan_effect(k, c, e, h, i, s.wire.len - 1)
+}
+
+// A packet that can be lost is.
+pub fn plan_lose(n: u8, s: LockState, i: u8) -> Plan
+    requires { ⌜ (Ready s) × (i < s .wire .len) ⌝ }
+    ensures { λ r. ⌜ Plans r s (loseStep n s i) ⌝ }
+{
+    let p = packet_at(s.wire, i);
+    let to = p.to;
+    let m = p.message;
+    let k = machine_at(to);
+    let c = client_named(m);
+    let v = site_of(n, s, k, c);
+    let e = lose(v);
+    plan_effect(k, c, e, Handling::None, i, s.wire.len - 1)
 }

@@ -3,14 +3,16 @@ use crate::generator::Outputs;
 use crate::generator::modulo;
 use crate::profile::Profile;
 use crate::profile::delays;
+use lock_calls::can_be_lost;
 use model::Cluster;
 use model::LockState;
+use model::Packet;
 use model::Status;
 use model::TASKS;
 use model::WIRE_CAPACITY;
 use model::Wire;
 
-// The kind is 1 acquire, 2 release or 3 deliver; the call takes of the arguments those it has.
+// The kind is 1 acquire, 2 release, 3 deliver, 6 lose or 7 give up; the call takes of the arguments those it has.
 pub struct Choice {
     pub kind: u8,
     pub lock: u8,
@@ -20,20 +22,31 @@ pub struct Choice {
     pub index: u8,
 }
 
+// The page's table of kinds.
+fn wild_kind(i: u16) -> u8 {
+    match i {
+        0 => 1,
+        1 => 2,
+        2 => 3,
+        3 => 6,
+        _ => 7,
+    }
+}
+
 // Arguments in range or not.
 fn wild(o: Outputs) -> Choice {
     Choice {
-        kind: (1 + o.o2 % 3) as u8,
+        kind: wild_kind(o.o2 % 5),
         lock: (o.o3 % 10) as u8,
         machine: (o.o4 % 6) as u8,
         task: (o.o5 % 6) as u8,
         mode: (o.o6 % 6) as u8,
-        index: (o.o7 % 41) as u8,
+        index: (o.o7 % 57) as u8,
     }
 }
 
-// The first kind that fits.
-fn fitting_kind(p: Profile, k: u16, client: u8, s: Status) -> u8 {
+// The first kind that fits. The page's k and u.
+fn fitting_kind(p: Profile, k: u16, u: u16, client: u8, s: Status) -> u8 {
     if k < p.deliver {
         return 3;
     }
@@ -42,7 +55,7 @@ fn fitting_kind(p: Profile, k: u16, client: u8, s: Status) -> u8 {
     }
     match s {
         Status::Idle => 1,
-        Status::Waiting(_) => 3,
+        Status::Waiting(_) => if u < p.gives_up { 7 } else { 3 },
         Status::Holding(_) => release_or_deliver(p.pinned, client),
     }
 }
@@ -56,8 +69,27 @@ fn release_or_deliver(pinned: bool, client: u8) -> u8 {
     }
 }
 
-// The index goes up past packets that the profile delays. No profile that delays meets a wire longer than its slots.
-fn passed(p: Profile, w: Wire, first: u8) -> u8 {
+// What would be delivered may be lost instead. The page's u.
+fn lost_or_not(p: Profile, u: u16, kind: u8) -> u8 {
+    if kind == 3 {
+        if 63 - u % 64 < p.loses {
+            return 6;
+        }
+    }
+    kind
+}
+
+// Does the call pass the packet on its way up the wire?
+fn passes(p: Profile, kind: u8, x: Packet) -> bool {
+    if kind == 6 {
+        !can_be_lost(x)
+    } else {
+        delays(p, x)
+    }
+}
+
+// The index goes up past packets that the call passes, and no further than there are slots.
+fn passed(p: Profile, kind: u8, w: Wire, first: u8) -> u8 {
     let n = w.len;
     let mut i = first;
     while i < n {
@@ -65,7 +97,7 @@ fn passed(p: Profile, w: Wire, first: u8) -> u8 {
             return i;
         }
         let x = w.slots[i as usize];
-        if !delays(p, x) {
+        if !passes(p, kind, x) {
             return i;
         }
         i += 1;
@@ -73,12 +105,12 @@ fn passed(p: Profile, w: Wire, first: u8) -> u8 {
     i
 }
 
-fn start_index(p: Profile, w: Wire, o: Outputs) -> u8 {
+fn start_index(p: Profile, kind: u8, w: Wire, o: Outputs) -> u8 {
     let first = modulo(o.o7, w.len as u16 + 1);
     if (o.o1 / 64) % 8 == 0 {
         first
     } else {
-        passed(p, w, first)
+        passed(p, kind, w, first)
     }
 }
 
@@ -94,9 +126,10 @@ fn ordinary(p: Profile, s: LockState, lock: u8, o: Outputs) -> Choice {
     let c = s.clients[client as usize];
     let status = c.status;
     let w = s.wire;
-    let kind = fitting_kind(p, o.o2 % 64, client, status);
+    let u = (o.o0 / 64) % 64;
+    let kind = lost_or_not(p, u, fitting_kind(p, o.o2 % 64, u, client, status));
     let mode = mode_number(p, o);
-    let index = start_index(p, w, o);
+    let index = start_index(p, kind, w, o);
     Choice {
         kind,
         lock,

@@ -1,4 +1,4 @@
-// docs/random-runs.md, 'Hand-made states': the lock, with the faults 10 to 12 and 14, and the cluster, with fault 13.
+// docs/random-runs.md, 'Hand-made states': the lock, with the faults 10 to 12, 14 and 16, and the cluster, with fault 13.
 ghost use Prim.Native.Nat.{_≤_};
 ghost use Rattle.model.specs.States.{wireCapacity};
 use crate::agent::agent;
@@ -28,6 +28,7 @@ use model::Packet;
 use model::Status;
 use model::WIRE_CAPACITY;
 use model::Wire;
+use parts::state::is_waiting;
 use std::num::wrapping_add_u8;
 
 // 0 free, 1 exclusive, 2 and 3 shared.
@@ -106,13 +107,19 @@ fn status(n: u8) -> Status {
 // Item 4 for one client.
 fn client(s: &mut u32) -> ClientState {
     let x = status(draw(s, 8));
-    ClientState { status: x }
+    let noted = draw(s, 4) == 0;
+    let waits = is_waiting(x);
+    ClientState {
+        status: x,
+        lost: waits & noted,
+    }
 }
 
 // Item 4 for all.
 fn clients(s: &mut u32) -> [ClientState; CLIENTS] {
     let idle = ClientState {
         status: Status::Idle,
+        lost: false,
     };
     let mut states = [idle; CLIENTS];
     for i in 0..CLIENTS {
@@ -120,6 +127,17 @@ fn clients(s: &mut u32) -> [ClientState; CLIENTS] {
         states[i] = x;
     }
     states
+}
+
+// Fault 16: a client has the note, whatever its status is.
+fn noted(mut a: [ClientState; CLIENTS], f: Fault) -> [ClientState; CLIENTS] {
+    if f.kind == 16 {
+        let i = (f.value % 16) as usize;
+        let x = a[i];
+        let status = x.status;
+        a[i] = ClientState { status, lost: true };
+    }
+    a
 }
 
 // Item 5: the wire's slots, with n packets.
@@ -147,7 +165,7 @@ fn stray_packet() -> Packet {
 fn wire(slots: [Packet; WIRE_CAPACITY], n: u8, f: Fault) -> Wire {
     let mut w = Wire { slots, len: n };
     if f.kind == 11 {
-        w.len = 34 + f.value % 222;
+        w.len = 50 + f.value % 206;
     }
     if f.kind == 12 {
         if n < WIRE_CAPACITY as u8 {
@@ -170,17 +188,17 @@ fn wire_length(i: u8) -> u8
         10 => 4,
         11 => 5,
         12 => 6,
-        13 => 31,
-        14 => 32,
-        _ => 33,
+        13 => 47,
+        14 => 48,
+        _ => 49,
     }
 }
 
-// Fault 11 wants all 33 slots drawn.
+// Fault 11 wants all 49 slots drawn.
 fn packet_count(kind: u8, i: u8) -> u8
     ensures { λ r. ⌜ r ≤ wireCapacity ⌝ }
 {
-    if kind == 11 { 33 } else { wire_length(i) }
+    if kind == 11 { 49 } else { wire_length(i) }
 }
 
 // A lock with its fault, which item 1 gives with the number of its packets.
@@ -190,7 +208,7 @@ struct Drawn {
 }
 
 fn lock(s: &mut u32, prefers: bool) -> Drawn {
-    let kind = draw(s, 16);
+    let kind = draw(s, 17);
     let value = draw(s, 239);
     let n = packet_count(kind, draw(s, 16));
     let slot = draw(s, 4 + n as u16);
@@ -198,7 +216,7 @@ fn lock(s: &mut u32, prefers: bool) -> Drawn {
     let decider = decider(s, prefers, f);
     let o = decider.owner;
     let agents = agents(s, o, f);
-    let clients = clients(s);
+    let clients = noted(clients(s), f);
     let slots = packets(s, n, f);
     let wire = wire(slots, n, f);
     let lock = LockState {

@@ -33,9 +33,9 @@ fn fresh() {
 // 'Runs': one seed.
 fn from_fresh(seed: u32) {
     let mut s = generator::start(seed);
-    let made = engine::fresh((seed / 9 % 2) as u8);
+    let made = engine::fresh((seed / 13 % 2) as u8);
     let x = made.cluster;
-    run::run(b"run ", &mut s, profile::numbered(seed % 9), seed, x);
+    run::run(b"run ", &mut s, profile::numbered(seed % 13), seed, x);
 }
 
 // 'Hand-made states': one seed.
@@ -46,7 +46,7 @@ fn from_hand_made(seed: u32) {
 }
 
 fn runs() {
-    for seed in 1..1351 {
+    for seed in 1..1431 {
         from_fresh(seed);
     }
 }

@@ -9,11 +9,15 @@ pub struct Profile {
     pub shared: u16,
     pub deliver: u16,
     pub wild: u16,
-    // The packets that it delays: G, R and A.
+    // The packets that it delays: G, R, Q, A and N.
     pub delays_granted: bool,
     pub delays_requests: bool,
+    pub delays_asking: bool,
     pub delays_agents: bool,
+    pub delays_grants: bool,
     pub pinned: bool,
+    pub gives_up: u16,
+    pub loses: u16,
 }
 
 fn row(steps: u16, locks: u16, shared: u16, deliver: u16, wild: u16) -> Profile {
@@ -25,8 +29,12 @@ fn row(steps: u16, locks: u16, shared: u16, deliver: u16, wild: u16) -> Profile 
         wild,
         delays_granted: false,
         delays_requests: false,
+        delays_asking: false,
         delays_agents: false,
+        delays_grants: false,
         pinned: false,
+        gives_up: 0,
+        loses: 0,
     }
 }
 
@@ -41,13 +49,29 @@ impl Profile {
         self
     }
 
+    fn asking(mut self) -> Profile {
+        self.delays_asking = true;
+        self
+    }
+
     fn agents(mut self) -> Profile {
         self.delays_agents = true;
         self
     }
 
+    fn grants(mut self) -> Profile {
+        self.delays_grants = true;
+        self
+    }
+
     fn pinning(mut self) -> Profile {
         self.pinned = true;
+        self
+    }
+
+    fn losing(mut self, gives_up: u16, loses: u16) -> Profile {
+        self.gives_up = gives_up;
+        self.loses = loses;
         self
     }
 }
@@ -59,16 +83,23 @@ pub fn numbered(n: u32) -> Profile {
         1 => row(512, 1, 60, 32, 1).granted(),
         2 => row(512, 2, 40, 32, 1).agents(),
         3 => row(512, 1, 62, 24, 1).granted().agents(),
-        4 => row(512, 8, 32, 24, 1),
+        4 => row(512, 8, 32, 24, 1).losing(4, 8),
         5 => row(512, 2, 32, 32, 32),
         6 => row(3072, 1, 64, 32, 1).pinning(),
         7 => row(512, 1, 32, 32, 1).requests(),
-        _ => row(512, 1, 48, 40, 1).granted(),
+        8 => row(512, 1, 48, 40, 1).granted(),
+        9 => row(512, 1, 48, 28, 1).grants().losing(8, 16),
+        10 => row(1024, 1, 64, 24, 1).granted()
+            .agents()
+            .grants()
+            .losing(63, 0),
+        11 => row(512, 2, 32, 40, 1).asking().losing(48, 0),
+        _ => row(512, 1, 40, 28, 1).losing(8, 16),
     }
 }
 
 pub fn hand_made() -> Profile {
-    row(16, 2, 32, 32, 2)
+    row(16, 2, 32, 32, 2).losing(8, 16)
 }
 
 fn to_machine(a: Address) -> bool {
@@ -81,10 +112,10 @@ fn to_machine(a: Address) -> bool {
 fn delays_acquire(p: Profile, granted: bool, a: Address) -> bool {
     if granted {
         p.delays_granted
-    } else if p.delays_requests {
-        to_machine(a)
+    } else if to_machine(a) {
+        p.delays_requests
     } else {
-        false
+        p.delays_asking
     }
 }
 
@@ -102,7 +133,7 @@ pub fn delays(p: Profile, x: Packet) -> bool {
             mode: _,
             granted,
         } => delays_acquire(p, granted, a),
-        Message::Grant { client: _, mode: _ } => false,
+        Message::Grant { client: _, mode: _ } => p.delays_grants,
         Message::Release { client: _ } => false,
         Message::Free => false,
     }

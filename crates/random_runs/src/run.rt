@@ -63,6 +63,8 @@ fn perform(x: Cluster, c: Choice) -> Outcome {
             c.mode,
         ),
         2 => engine::release(x, LockId(c.lock), MachineId(c.machine), TaskId(c.task)),
+        6 => engine::lose(x, LockId(c.lock), c.index),
+        7 => engine::give_up(x, LockId(c.lock), MachineId(c.machine), TaskId(c.task)),
         _ => engine::deliver(x, LockId(c.lock), c.index),
     }
 }

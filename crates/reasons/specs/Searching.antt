@@ -8,10 +8,11 @@ use native.Mathlib.Omega.{arith}
 use lib.ListN.{drop}
 use Rattle.model.specs.declared.{ClientId.ClientId, Waiter.Waiter, AgentSlot.AgentSlot, Packet.Packet, LockState.LockState}
 use Rattle.model.specs.declared.{Found.Found, Found.the-variants.{Nowhere, At}}
-use Rattle.model.specs.declared.{Refusal.the-variants.{NotWaiting}, Reason.Reason, Reason.the-variants.{Requested, Granted, Rejected, Queued, Carried}}
+use Rattle.model.specs.declared.{Refusal.the-variants.{NotWaiting}, Reason.Reason}
+use Rattle.model.specs.declared.{Reason.the-variants.{Requested, Granted, Rejected, Queued, Carried, GrantLost}}
 use Rattle.model.specs.declared.{ReasonAnswer.ReasonAnswer, ReasonAnswer.the-variants.{Because, Refused as NoReason}}
 use Rattle.model.specs.Lists.{pick, isAt, indices}
-use Rattle.model.specs.States.{waiters, packets}
+use Rattle.model.specs.States.{waiters, packets, noteOf}
 use Rattle.model.specs.WellFormed.{isClient}
 use Rattle.model.specs.Reasons.{requests, grants, grantRejected, queuedIn, isTrue, inQueues, reasonsIn, firstTrue}
 use Rattle.laws.specs.Lists.{at-map}
@@ -70,6 +71,17 @@ inside p = p .carried
 abbrev pub queueReason : LockState → ClientId → ReasonAnswer
 queueReason s c = orElse (seekQueues c itself onMachine 0 (s .agents)) (seekQueues c inside Carried 0 (packets (s .wire)))
 
+-- of the note; and of both, where the client has no packet
+abbrev pub lostReason : Bool → ReasonAnswer
+lostReason b = pick b (Because GrantLost) (NoReason NotWaiting)
+
+abbrev pub otherReason : LockState → ClientId → ReasonAnswer
+otherReason s c = orElse (queueReason s c) (lostReason (noteOf s c))
+
+else-assoc : (x y z : ReasonAnswer) → orElse (orElse x y) z ≡ orElse x (orElse y z)
+else-assoc (Because r) y z = refl
+else-assoc (NoReason n) y z = refl
+
 module _ (s : LockState) (c : ClientId) where
   first-append : (xs ys : List Reason) → firstTrue s c (xs ++ ys) ≡ orElse (firstTrue s c xs) (firstTrue s c ys)
   unfolding firstTrue
@@ -126,9 +138,13 @@ module _ (s : LockState) (c : ClientId) where
       → firstTrue s c (inQueues f 0 xs) ≡ seekQueues c itself f 0 xs
   queued f xs h = first-queued f 0 xs (λ i j a q. let same : j ≡ i = omega (arith, q) in rw same (h a i))
 
+  by-note : firstTrue s c (GrantLost ∷ []) ≡ lostReason (noteOf s c)
+  unfolding firstTrue isTrue
+  by-note = refl
+
   pub by-kind : firstTrue s c (reasonsIn s)
       ≡ orElse (asReason Requested (seek (requests c) 0 ps)) (orElse (asReason Granted (seek (grants c) 0 ps))
-      (orElse (asReason Rejected (seek (grantRejected c) 0 ps)) (queueReason s c)))
+      (orElse (asReason Rejected (seek (grantRejected c) 0 ps)) (otherReason s c)))
   unfolding isTrue reasonsIn
   by-kind =
       let requested : List Reason = map Requested (indices 0 ps) in
@@ -136,15 +152,19 @@ module _ (s : LockState) (c : ClientId) where
       let rejected : List Reason = map Rejected (indices 0 ps) in
       let on : List Reason = inQueues onMachine 0 (s .agents) in
       let carried : List Reason = inQueues Carried 0 (map inside ps) in
+      let lost : List Reason = GrantLost ∷ [] in
       rw (
-        first-append requested (granted ++ (rejected ++ (on ++ carried))),
-        first-append granted (rejected ++ (on ++ carried)),
-        first-append rejected (on ++ carried),
-        first-append on carried,
+        first-append requested (granted ++ (rejected ++ (on ++ (carried ++ lost)))),
+        first-append granted (rejected ++ (on ++ (carried ++ lost))),
+        first-append rejected (on ++ (carried ++ lost)),
+        first-append on (carried ++ lost),
+        first-append carried lost,
         sought Requested (requests c) (λ i. refl),
         sought Granted (grants c) (λ i. refl),
         sought Rejected (grantRejected c) (λ i. refl),
         queued onMachine (s .agents) (λ a i. refl),
         queued Carried (map inside ps) (λ a i. at-map (queuedIn c a) inside i ps),
         queues-inside Carried 0 ps,
+        by-note,
+        else-assoc (seekQueues c itself onMachine 0 (s .agents)) (seekQueues c inside Carried 0 ps) (lostReason (noteOf s c)),
       )

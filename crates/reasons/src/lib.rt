@@ -4,8 +4,8 @@ ghost use lib.ListN.{take};
 ghost use Rattle.model.specs.declared.Reason.the-variants.{Carried};
 ghost use Rattle.model.specs.Lists.{IsFirst};
 ghost use Rattle.model.specs.WellFormed.{isClient};
-ghost use Rattle.model.specs.Reasons.{firstTrue, reasonsIn, isWaiting, reasonIn};
-ghost use Rattle.reasons.specs.Searching.{aheadIn, seekQueues, onMachine, itself, inside, queueReason};
+ghost use Rattle.model.specs.Reasons.{firstTrue, reasonsIn, reasonIn};
+ghost use Rattle.reasons.specs.Searching.{aheadIn, seekQueues, onMachine, itself, inside, queueReason, lostReason, otherReason};
 use model::AgentSlot;
 use model::ClientId;
 use model::Found;
@@ -17,23 +17,14 @@ use model::QUEUE_CAPACITY;
 use model::Reason;
 use model::ReasonAnswer;
 use model::Refusal;
-use model::Status;
 use model::WIRE_CAPACITY;
 use model::Waiter;
 use parts::search::Sought;
 use parts::search::first_packet;
+use parts::state::is_waiting;
+use parts::state::note_at;
 use parts::state::status_at;
 use parts::used::used;
-
-fn is_waiting(st: Status) -> bool
-    ensures { λ r. ⌜ r ≡ isWaiting st ⌝ }
-{
-    match st {
-        Status::Idle => false,
-        Status::Waiting(_) => true,
-        Status::Holding(_) => false,
-    }
-}
 
 fn first_waiter(a: [Waiter; QUEUE_CAPACITY], len: u8, c: ClientId) -> Found
     ensures { λ r. ⌜ IsFirst (isClient c) (take len a) r ⌝ }
@@ -124,6 +115,29 @@ fn first_in_queues(s: LockState, c: ClientId) -> ReasonAnswer
     }
 }
 
+// The note of a lost GRANT: the last of the reasons.
+fn grant_lost(b: bool) -> ReasonAnswer
+    ensures { λ r. ⌜ r ≡ lostReason b ⌝ }
+{
+    if b {
+        ReasonAnswer::Because(Reason::GrantLost)
+    } else {
+        ReasonAnswer::Refused(Refusal::NotWaiting)
+    }
+}
+
+// Queues come before the note.
+fn first_in_state(s: LockState, c: ClientId) -> ReasonAnswer
+    ensures { λ r. ⌜ r ≡ otherReason s c ⌝ }
+{
+    let clients = s.clients;
+    let queued = first_in_queues(s, c);
+    match queued {
+        ReasonAnswer::Because(r) => ReasonAnswer::Because(r),
+        ReasonAnswer::Refused(_) => grant_lost(note_at(clients, c)),
+    }
+}
+
 // Packets of the client come before queues.
 fn first_true(s: LockState, c: ClientId) -> ReasonAnswer
     ensures { λ r. ⌜ r ≡ firstTrue s c (reasonsIn s) ⌝ }
@@ -147,7 +161,7 @@ fn first_true(s: LockState, c: ClientId) -> ReasonAnswer
     let rejected = first_packet(a, w.len, Sought::RejectedGrant, c);
     match rejected {
         Found::At(index) => ReasonAnswer::Because(Reason::Rejected { index }),
-        Found::Nowhere => first_in_queues(s, c),
+        Found::Nowhere => first_in_state(s, c),
     }
 }
 

@@ -7,7 +7,7 @@ use model::TaskId;
 ghost use mathlib.Core.Path.{_≡_};
 ghost use Prim.Native.Nat.{_<_};
 ghost use lib.ListN.{length};
-ghost use Rattle.model.specs.Transcripts.{byteAt, short, acquireAt, releaseAt, deliverAt, wholeRecord, readRecord};
+ghost use Rattle.model.specs.Transcripts.{byteAt, short, acquireAt, releaseAt, deliverAt, loseAt, giveUpAt, wholeRecord, readRecord};
 
 // 0 past the end: what a cut record lacks is read as well, and whole_record refuses it.
 fn byte_at(bytes: &[u8], i: usize) -> u8
@@ -65,6 +65,27 @@ fn deliver_at(bytes: &[u8], at: usize) -> Call
     }
 }
 
+fn lose_at(bytes: &[u8], at: usize) -> Call
+    requires { ⌜ at < length (now bytes) ⌝ }
+    ensures { λ r. ⌜ r ≡ loseAt (now (bytes .entry)) at ⌝ }
+{
+    Call::Lose {
+        lock: LockId(byte_at(bytes, at + 4)),
+        index: byte_at(bytes, at + 5),
+    }
+}
+
+fn give_up_at(bytes: &[u8], at: usize) -> Call
+    requires { ⌜ at < length (now bytes) ⌝ }
+    ensures { λ r. ⌜ r ≡ giveUpAt (now (bytes .entry)) at ⌝ }
+{
+    Call::GiveUp {
+        lock: LockId(byte_at(bytes, at + 4)),
+        machine: MachineId(byte_at(bytes, at + 5)),
+        task: TaskId(byte_at(bytes, at + 6)),
+    }
+}
+
 // The call of a record of n bytes, where its length says n and so many are left.
 fn whole_record(n: usize, bytes: &[u8], at: usize, call: Call) -> Reading
     requires { ⌜ at < length (now bytes) ⌝ }
@@ -93,6 +114,8 @@ pub fn read_record(bytes: &[u8], at: usize) -> Reading
         1 => whole_record(8, bytes, at, acquire_at(bytes, at)),
         2 => whole_record(7, bytes, at, release_at(bytes, at)),
         3 => whole_record(6, bytes, at, deliver_at(bytes, at)),
+        6 => whole_record(6, bytes, at, lose_at(bytes, at)),
+        7 => whole_record(7, bytes, at, give_up_at(bytes, at)),
         _ => Reading::Bad,
     }
 }

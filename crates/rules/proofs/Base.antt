@@ -7,4 +7,4 @@ unfoldable pub use Rattle.rules.specs.Effects.{sentBy, verdictOf}
 pub use Rattle.rules.specs.Leaving.{hands-on, frees}
 pub use Rattle.rules.specs.Room.{room-left}
 pub use Rattle.rules.specs.Tested.{tested-yes, tested-no}
-unfoldable pub use Rattle.model.specs.Asking.{mayJoin, clientAsks, clientAcquires, staysIf, clientReleases}
+unfoldable pub use Rattle.model.specs.Asking.{mayJoin, clientAsks, clientAcquires, staysIf, clientReleases, clientGivesUp, grantIsLost}

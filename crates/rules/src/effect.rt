@@ -84,6 +84,7 @@ pub fn cannot_place() -> Effect
         decider: d,
         slot: x,
         status: Status::Idle,
+        lost: false,
     };
     Effect {
         placed: false,

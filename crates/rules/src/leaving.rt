@@ -1,9 +1,10 @@
-// A holder is removed, and an agent whose holders are gone leaves its machine.
+// Handing back: a holder is removed, and an agent whose holders are gone leaves its machine.
 use crate::effect::Effect;
 use crate::effect::doing;
 use crate::effect::no_packet;
 use crate::effect::one_packet;
 use crate::effect::sending;
+use crate::site::with_note;
 use crate::site::with_slot;
 use crate::site::with_status;
 use model::Address;
@@ -24,11 +25,12 @@ use parts::blank::some_agent;
 use parts::holders::any_holder;
 use parts::holders::holds;
 use parts::holders::set_holder;
+use parts::state::is_waiting;
 use queues::first;
 use queues::pop;
 ghost use mathlib.Core.Path.{_≡_};
 ghost use Rattle.model.specs.States.{waiters, machineOf};
-ghost use Rattle.model.specs.Asking.{handOver, leaves, lists, clientReleases};
+ghost use Rattle.model.specs.Asking.{handOver, leaves, lists, clientReleases, clientGivesUp, grantIsLost};
 ghost use Rattle.laws.specs.Shapes.{CanonicalQueue};
 ghost use Rattle.rules.specs.Effects.{verdictOf};
 
@@ -96,4 +98,22 @@ pub fn release(v: Site, c: ClientId) -> Effect
         let p = plain_packet(Message::Release { client: c }, Address::Decider);
         sending(w, p)
     }
+}
+
+// A client that waits gives up.
+pub fn give_up(v: Site, c: ClientId) -> Effect
+    ensures { λ r. ⌜ verdictOf r ≡ clientGivesUp v c ⌝ }
+{
+    let w = with_status(v, Status::Idle);
+    let p = plain_packet(Message::Release { client: c }, Address::Decider);
+    sending(w, p)
+}
+
+// A GRANT is lost: its client, if it waits, has a note of that.
+pub fn lose(v: Site) -> Effect
+    ensures { λ r. ⌜ verdictOf r ≡ grantIsLost v ⌝ }
+{
+    let st = v.status;
+    let w = with_note(v, is_waiting(st));
+    doing(w, no_packet())
 }

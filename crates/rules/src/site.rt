@@ -7,9 +7,10 @@ use model::MachineId;
 use model::Site;
 use model::Status;
 use parts::state::agent_at;
+use parts::state::note_at;
 use parts::state::status_at;
 ghost use mathlib.Core.Path.{_≡_};
-ghost use Rattle.model.specs.Changes.{siteOf, withDecider, withSlot, withStatus};
+ghost use Rattle.model.specs.Changes.{siteOf, withDecider, withSlot, withStatus, withNote};
 
 // n is the cluster's preference.
 pub fn site_of(n: u8, s: LockState, k: MachineId, c: ClientId) -> Site
@@ -20,11 +21,13 @@ pub fn site_of(n: u8, s: LockState, k: MachineId, c: ClientId) -> Site
     let clients = s.clients;
     let x = agent_at(agents, k);
     let st = status_at(clients, c);
+    let b = note_at(clients, c);
     Site {
         preference: n,
         decider: d,
         slot: x,
         status: st,
+        lost: b,
     }
 }
 
@@ -43,6 +46,7 @@ pub fn with_slot(mut v: Site, x: AgentSlot) -> Site
     v
 }
 
+// A status that is written has no note.
 pub fn with_status(v: Site, st: Status) -> Site
     ensures { λ r. ⌜ r ≡ withStatus v st ⌝ }
 {
@@ -53,5 +57,13 @@ pub fn with_status(v: Site, st: Status) -> Site
         decider: d,
         slot: x,
         status: st,
+        lost: false,
     }
+}
+
+pub fn with_note(mut v: Site, b: bool) -> Site
+    ensures { λ r. ⌜ r ≡ withNote v b ⌝ }
+{
+    v.lost = b;
+    v
 }

@@ -259,7 +259,8 @@ fn client(c: ClientState, d: ClientState) -> bool
 {
     let s = c.status;
     let t = d.status;
-    statuses(s, t)
+    let e = statuses(s, t);
+    e & (c.lost == d.lost)
 }
 
 fn clients(a: [ClientState; CLIENTS], b: [ClientState; CLIENTS]) -> bool

@@ -4,6 +4,7 @@ use by_hand::line::Numbers;
 use by_hand::line::numbers_in;
 use by_hand::line::place;
 use by_hand::print;
+use model::Call;
 use model::Cluster;
 use model::Handling;
 use model::LockId;
@@ -62,35 +63,54 @@ fn unknown(cluster: Cluster) -> Done {
     }
 }
 
-fn acquire(x: Cluster, n: Numbers) -> Done {
-    of_call(engine::acquire(
-        x,
-        LockId(n.first),
-        MachineId(n.second),
-        TaskId(n.third),
-        n.fourth,
-    ))
+// The words' places in `read` are the cases.
+fn call_of(k: usize, n: Numbers) -> Call {
+    let lock = LockId(n.first);
+    let machine = MachineId(n.second);
+    let task = TaskId(n.third);
+    match k {
+        0 => Call::Acquire {
+            lock,
+            machine,
+            task,
+            mode: n.fourth,
+        },
+        1 => Call::Release {
+            lock,
+            machine,
+            task,
+        },
+        2 => Call::Deliver {
+            lock,
+            index: n.second,
+        },
+        3 => Call::Lose {
+            lock,
+            index: n.second,
+        },
+        _ => Call::GiveUp {
+            lock,
+            machine,
+            task,
+        },
+    }
 }
 
-fn release(x: Cluster, n: Numbers) -> Done {
-    of_call(engine::release(x, LockId(n.first), MachineId(n.second), TaskId(n.third)))
-}
-
-fn deliver(x: Cluster, n: Numbers) -> Done {
-    of_call(engine::deliver(x, LockId(n.first), n.second))
-}
-
-// The call that the text says. The words' places are the cases.
+// The call that the text says, or the drain. One call for all kinds: each would take a cluster's room on the stack.
 fn read(x: Cluster, s: &[u8]) -> Done {
     let n = numbers_in(s);
-    let k = place(s, n.count, b"4acquire 3release 2deliver 1drain");
-    match k {
-        0 => acquire(x, n),
-        1 => release(x, n),
-        2 => deliver(x, n),
-        3 => drained(x, n.first),
-        _ => unknown(x),
+    let k = place(
+        s,
+        n.count,
+        b"4acquire 3release 2deliver 2lose 3give-up 1drain",
+    );
+    if k < 5 {
+        return of_call(engine::perform(call_of(k, n), x));
     }
+    if k == 5 {
+        return drained(x, n.first);
+    }
+    unknown(x)
 }
 
 fn answered(x: Cluster, d: Done) {

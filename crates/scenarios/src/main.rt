@@ -8,7 +8,7 @@ mod show;
 mod transcripts;
 
 // The script has less.
-const ROOM: usize = 131072;
+const ROOM: usize = 98304;
 
 fn main() {
     let mut bytes = [0u8; ROOM];

@@ -27,6 +27,7 @@ fn because(r: Reason) {
             labelled(b", queue in the packet at index ", index);
             labelled(b", ahead ", ahead);
         }
+        Reason::GrantLost => text(b", its GRANT was lost"),
     }
 }
 

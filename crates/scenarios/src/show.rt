@@ -83,6 +83,9 @@ fn status(clients: [ClientState; CLIENTS], c: u8) {
     let z = y.status;
     client(c);
     status_words(z);
+    if y.lost {
+        text(b", its GRANT was lost");
+    }
     text(b"\n");
 }
 

@@ -40,14 +40,24 @@ fn with_client(r: Records, n: Numbers) -> Records {
     with_byte(with_byte(with_byte(r, n.first), n.second), n.third)
 }
 
+fn with_index(r: Records, n: Numbers) -> Records {
+    with_byte(with_byte(r, n.first), n.second)
+}
+
 // The words' places are the cases.
 pub fn recorded(r: Records, s: &[u8], n: Numbers) -> Records {
-    let k = line::word(s, n.count, b"4acquire 3release 2deliver 0bad");
+    let k = line::word(
+        s,
+        n.count,
+        b"4acquire 3release 2deliver 0bad 2lose 3give-up",
+    );
     match k {
         0 => with_byte(with_client(begun(r, 8, 1), n), n.fourth),
         1 => with_client(begun(r, 7, 2), n),
-        2 => with_byte(with_byte(begun(r, 6, 3), n.first), n.second),
+        2 => with_index(begun(r, 6, 3), n),
         3 => begun(r, 4, 0),
+        4 => with_index(begun(r, 6, 6), n),
+        5 => with_client(begun(r, 7, 7), n),
         _ => r,
     }
 }

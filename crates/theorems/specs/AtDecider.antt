@@ -1,59 +1,31 @@
 -- Every step at the decider can be placed and keeps the invariant.
-use Rattle.theorems.specs.Names.{MachineId, ClientId, Mode, Exclusive, Shared, Owner, Unowned, Owned, Agent, Address, ToDecider, ToMachine, Message, Free}
-use Rattle.theorems.specs.Names.{Acquire, Grant, Release, Packet, Status, Idle, Waiting, Holding, LockState, _≡_, refl, sym, Bool, true, false, _&&_, not}
-use Rattle.theorems.specs.Names.{List, [], _∷_, ℕ, _+_, _≤_, _<_, _%_, arith, set-getD, ltb, eqb-true, eqb-false, eq-eqb, ltb-true, all, machineOf}
-use Rattle.theorems.specs.Names.{noHolders, unowned, waiters, noAgent, packets, Site, siteOf, withDecider, changed, lists, grantsFirst, shares, current}
-use Rattle.theorems.specs.Names.{rejects, passesOn, toOwner, decidesAcquire, decidesFree, decidesGrant, decides, and-left, and-right, both, bool-cases}
-use Rattle.theorems.specs.Names.{waiters-of, Decider, _∙_, false≢true, machines, clients, ownedShared, mayShare, slotIn, inParts, plain}
-use Rattle.theorems.specs.Tally.{flag, tally, tally-any, tally-le, tally-none, tally-add, sumTo, sum-swap, sum-le, sum-one}
-use Rattle.theorems.specs.Weights.{statusAt, slotAt, weight, one, askM, queuedS, waitingP, markM, listedS, listedP, owedM, owedP, releaseM, releaseP}
-use Rattle.theorems.specs.Weights.{agentS, agentP, incarnationS, incarnationP, markAll, markP, rejectedP, vacantS, holdF, ownedF, clash, farM, farP, farF}
-use Rattle.theorems.specs.Weights.{waitedF, ownedMode, misfitS, fitsAway, fitsFree, inRange, fits, fitsP, misfitP}
+use Rattle.theorems.specs.Names.{MachineId, ClientId, Mode, Exclusive, Shared, Owner, Unowned, Owned, Agent, Address, ToDecider, ToMachine, Message}
+use Rattle.theorems.specs.Names.{Free, Acquire, Grant, Release, Packet, Status, Idle, Waiting, Holding, LockState, _≡_, refl, sym, Bool, true, false}
+use Rattle.theorems.specs.Names.{_&&_, not, List, [], _∷_, ℕ, _+_, _≤_, _<_, _%_, arith, set-getD, ltb, eqb-true, eqb-false, eq-eqb, ltb-true, all}
+use Rattle.theorems.specs.Names.{machineOf, noHolders, unowned, waiters, noAgent, packets, Site, siteOf, withDecider, changed, lists, grantsFirst}
+use Rattle.theorems.specs.Names.{shares, current, rejects, passesOn, toOwner, decidesAcquire, decidesRelease, decidesFree, decidesGrant, decides}
+use Rattle.theorems.specs.Names.{and-left, and-right, both, waiters-of, Decider, _∙_, false≢true, machines, clients, ownedShared, mayShare, slotIn}
+use Rattle.theorems.specs.Names.{inParts, plain, true≢false}
+use Rattle.theorems.specs.Tally.{flag, tally, tally-any, tally-none, tally-add}
+use Rattle.theorems.specs.Weights.{statusAt, slotAt, weight, askM, queuedS, waitingP, markM, listedS, listedP, owedM, owedP, releaseM, releaseP, agentS}
+use Rattle.theorems.specs.Weights.{agentP, incarnationS, incarnationP, markAll, markP, rejectedP, vacantS, holdF, ownedF, clash, farM, farP, farF}
+use Rattle.theorems.specs.Weights.{waitedF, ownedMode, misfitS, fitsAway, fitsFree, fits, misfitP, clientIn, idleF}
 use Rattle.theorems.specs.Invariant.{Inv}
 use Rattle.theorems.specs.InvariantStep.{Keeps, Split, keep-step, told, untold, keep-calm, vacancy-by, Still, still, noted, keep-resent, framed}
 use Rattle.theorems.specs.Facts.{fit, Zero, absent, nobody, came-fits, near-owner, near-home, named-of, Plain, Request, acquire-of, release-of}
 use Rattle.theorems.specs.Facts.{plain-request, Away, away-of, away-fits, absent-of, silent-unshared, silent-equal, free-inc, same-mode, no-others}
-use Rattle.theorems.specs.Facts.{differ}
-use Rattle.theorems.specs.Sent.{Good, good-by, may-share, plain-any, request-any, no-marked, no-release, no-free, no-offer, no-freed, impossible, keep-on}
+use Rattle.theorems.specs.Facts.{differ, statuses}
+use Rattle.theorems.specs.Sent.{Good, good-by, may-share, plain-any, request-any, no-marked, no-free, no-offer, no-freed, impossible, keep-on}
 
--- ---- the packets that a new owner would not fit
-unfoldable pub loudM : Message → ℕ
-loudM (Acquire c n g) = 0
-loudM (Grant c n) = 1
-loudM (Release c) = 1
-loudM Free = 0
-
-loud-one : (m : Message) → loudM m ≤ 1
-unfolding loudM
-loud-one (Acquire c n g) = omega arith
-loud-one (Grant c n) = omega arith
-loud-one (Release c) = omega arith
-loud-one Free = omega arith
-
-loud-named : (x : Bool) (m : Message) → inRange m ≡ true → loudM m ≤ flag x + sumTo clients (λ d. owedM d x m)
-unfolding loudM owedM one
-loud-named true m e = omega (arith, loud-one m)
-loud-named false (Acquire c n g) e = omega arith
-loud-named false (Grant c n) e = omega (arith, sum-one clients (c .0) (ltb-true (c .0) clients e))
-loud-named false (Release c) e = omega (arith, sum-one clients (c .0) (ltb-true (c .0) clients e))
-loud-named false Free e = omega arith
-
-loud-fits : (o : Owner) (p : Packet) → loudM (p .message) ≤ misfitP o p + agentP p + sumTo clients (λ d. owedP d p)
-unfolding misfitP agentS
-loud-fits o p =
-    bool-cases (fitsP o p)
-    (λ q. omega (arith, loud-named (p .carried .present) (p .message) (named-of _ _ _ _ _ (p .message) q)))
-    (λ q. let e : misfitP o p ≡ 1 = rw q in omega (arith, loud-one (p .message)))
-
--- what is neither loud nor marked, carries no agent and fits one owner fits any
-any-owner : (o o′ : Owner) (x : Bool) (t : Address) (b : Bool) (a : Agent) (m : Message) → flag (not (fits o x t b a m)) + flag x + markAll m + loudM m ≡ 0
+-- what is not marked, carries no agent and fits one owner fits any
+any-owner : (o o′ : Owner) (x : Bool) (t : Address) (b : Bool) (a : Agent) (m : Message) → flag (not (fits o x t b a m)) + flag x + markAll m ≡ 0
     → flag (not (fits o′ x t b a m)) ≡ 0
-unfolding fits markAll loudM
+unfolding fits markAll
 any-owner o o′ true t b a m e = absurd (omega arith)
 any-owner o o′ false t b a (Acquire c n false) e = omega arith
 any-owner o o′ false t b a (Acquire c n true) e = absurd (omega arith)
-any-owner o o′ false t b a (Grant c n) e = absurd (omega arith)
-any-owner o o′ false t b a (Release c) e = absurd (omega arith)
+any-owner o o′ false t b a (Grant c n) e = omega arith
+any-owner o o′ false t b a (Release c) e = omega arith
 any-owner o o′ false t true a Free e = absurd (omega arith)
 any-owner o o′ false t false a Free e = absurd (omega arith)
 
@@ -74,7 +46,8 @@ no-clash (Owned m k) (Holding n) e = absurd (omega arith)
 
 -- ---- the lock gets another owner, or none: its one agent is in the packet p, or it has none, and no mark is on the wire
 module _ (r : LockState) (p : Packet) (rest : List Packet) (i : Inv r) (sp : Split r (p ∷ []) rest)
-    (all : agentP p ≡ ownedF (r .decider .owner)) (silent : tally markP (packets (r .wire)) ≡ 0) (p-lists : (d : ℕ) → listedP d p ≡ 0) where
+    (all : agentP p ≡ ownedF (r .decider .owner)) (silent : tally markP (packets (r .wire)) ≡ 0) (p-lists : (d : ℕ) → listedP d p ≡ 0)
+    (p-owes : (d : ℕ) → owedP d p ≡ 0) where
   none-here : tally agentP rest ≡ 0
   unfolding weight tally
   none-here = omega (arith, all, i .agent, sp .parts agentP)
@@ -96,46 +69,32 @@ module _ (r : LockState) (p : Packet) (rest : List Packet) (i : Inv r) (sp : Spl
   listed-none : (d : ℕ) → tally (listedS d) (r .agents) ≡ 0
   listed-none d = tally-none agentS (listedS d) (λ s e. absent s (absent-of s e) .listedS d) (r .agents) no-agent-on-any
 
-  owes-none : (d : ℕ) → holdF (statusAt r d) + tally (owedP d) (packets (r .wire)) ≡ 0
+  -- so whoever is present asks
+  asks-all : (d : ℕ) → weight (waitingP d Exclusive) (queuedS d Exclusive) r + weight (waitingP d Shared) (queuedS d Shared) r + idleF (statusAt r d)
+      ≡ 1 + tally (owedP d) (packets (r .wire))
   unfolding weight tally
-  owes-none d = omega (arith, i .holds d, lists-none d, listed-none d, sp .parts (listedP d), p-lists d)
+  asks-all d = omega (arith, i .presence d, lists-none d, listed-none d, sp .parts (listedP d), p-lists d)
 
   rest-fits : tally (misfitP (r .decider .owner)) rest ≡ 0
   unfolding tally
   rest-fits = omega (arith, i .fitting, sp .parts (misfitP (r .decider .owner)))
 
-  loud-none : tally (λ q. loudM (q .message)) rest ≡ 0
-  unfolding tally
-  loud-none =
-      omega (
-        arith,
-        tally-le _ _ (loud-fits (r .decider .owner)) rest,
-        tally-add (λ q. misfitP (r .decider .owner) q + agentP q) (λ q. sumTo clients (λ d. owedP d q)) rest,
-        tally-add (misfitP (r .decider .owner)) agentP rest,
-        rest-fits,
-        none-here,
-        sum-swap clients owedP rest,
-        sum-le clients 0 (λ d. tally (owedP d) rest) (λ d. omega (arith, owes-none d, sp .parts (owedP d))),
-      )
-
   pub any-fits : (o : Owner) → tally (misfitP o) rest ≡ 0
   unfolding misfitP agentS
   any-fits o =
-      tally-none (λ q. misfitP (r .decider .owner) q + agentP q + markP q + loudM (q .message)) (misfitP o)
+      tally-none (λ q. misfitP (r .decider .owner) q + agentP q + markP q) (misfitP o)
       (λ q e. any-owner (r .decider .owner) o (q .carried .present) (q .to) (q .rejected) (q .carried .agent) (q .message) e) rest
       (omega (
         arith,
         rest-fits,
         none-here,
         rest-silent,
-        loud-none,
-        tally-add (λ q. misfitP (r .decider .owner) q + agentP q + markP q) (λ q. loudM (q .message)) rest,
         tally-add (λ q. misfitP (r .decider .owner) q + agentP q) markP rest,
         tally-add (misfitP (r .decider .owner)) agentP rest,
       ))
 
   pub any-mode : (o : Owner) (d : ℕ) → clash o (statusAt r d) ≡ 0
-  any-mode o d = no-clash o (statusAt r d) (omega (arith, owes-none d))
+  any-mode o d = no-clash o (statusAt r d) (omega (arith, asks-all d, i .most d, statuses (statusAt r d)))
 
   any-slot : (o : Owner) (k : ℕ) → misfitS o k (slotAt r k) ≡ 0
   unfolding misfitS noAgent
@@ -163,14 +122,17 @@ module _ (r : LockState) (p : Packet) (rest : List Packet) (i : Inv r) (sp : Spl
       → Keeps r j u rest (withDecider (siteOf pref r j u) d) qs
   unfolding tally
   keep-reowned j u jj d qs l =
-      let same : (c : ℕ) → told r u (statusAt r (u .0)) c ≡ statusAt r c = untold r u in
+      let same : (c : ℕ) → told r u (clientIn r (u .0)) c ≡ clientIn r c = untold r u in
       keep-step i
       (record {
         split = sp;
         machine = jj;
         was = refl;
-        waits = λ c m. rw (same c) (omega (arith, l .waits c m));
-        holds = λ c. rw (same c) (omega (arith, l .lists c, l .owes c, p-lists c, owes-none c, sp .parts (owedP c)));
+        asks = λ c m. rw (same c) (omega (arith, l .waits c m));
+        most = λ c. rw (same c) (omega (arith, l .waits c Exclusive, l .waits c Shared, i .most c));
+        noted = λ c. rw (same c) (i .noted c);
+        presence = λ c. rw (same c) (omega (arith, l .waits c Exclusive, l .waits c Shared, l .lists c, l .owes c, p-lists c, p-owes c));
+        owed = λ z c. rw (same c) (omega (arith, l .owes c, asks-all c, i .most c, sp .parts (owedP c)));
         rels = λ c. rw (same c) (omega (arith, l .rels c, i .rels c, sp .parts (releaseP c)));
         agent = omega (arith, l .agent, all);
         incs = λ x h. omega (arith, l .marks, l .incs (x + incarnationS (slotAt r (j .0))) (omega (arith, silent, sp .parts markP)));
@@ -213,7 +175,7 @@ module _ (pref : ℕ) (r : LockState) (rest : List Packet) (i : Inv r) (j : Mach
       let pl : Plain c (slotIn x p) = plain-request i acquire-of sp in
       let z : Zero (slotIn x p) = pl .none in
       let al : agentS (slotIn x p) ≡ ownedF (r .decider .owner) = rw o (z .agentS) in
-      keep-reowned r _ rest i sp al (silent-unshared r i (rw o)) (λ d. omega (arith, z .listedS d)) j u jj _ _
+      keep-reowned r _ rest i sp al (silent-unshared r i (rw o)) (λ d. omega (arith, z .listedS d)) (λ d. refl) j u jj _ _
       (record {
         waits = λ d n. rw (waiters-of []) (omega (arith, z .queuedS d n));
         lists = λ d. omega (arith, nobody noHolders d refl);
@@ -242,6 +204,7 @@ module _ (pref : ℕ) (r : LockState) (rest : List Packet) (i : Inv r) (j : Mach
         waits = λ d m. omega (arith, z .queuedS d m);
         holds = λ d. omega (arith, z .listedS d);
         rels = λ d. omega arith;
+        owed = λ q d. absurd (true≢false (rw o at q));
         agent = omega (arith, z .agentS);
         incs = λ x h. omega (arith, z .incarnationS);
         fitting = rw (o, pl .named);
@@ -273,7 +236,8 @@ module _ (pref : ℕ) (r : LockState) (rest : List Packet) (i : Inv r) (j : Mach
   unfolding tally askM markM owedM releaseM markAll queuedS listedS agentS incarnationS ownedF waiters waitedF
   keep-freed ow e sp =
       let aw : Away a × (a .queue .len ≡ 0) = free-away sp in
-      keep-reowned r _ rest i sp (sym ow) (silent-equal r _ rest i sp refl e) (λ d. omega (arith, nobody (a .holders) d (aw .0 .empty))) j u jj unowned []
+      keep-reowned r _ rest i sp (sym ow) (silent-equal r _ rest i sp refl e) (λ d. omega (arith, nobody (a .holders) d (aw .0 .empty))) (λ d. refl) j u jj
+      unowned []
       (record {
         waits = λ d n. rw (waiters, aw .1);
         lists = λ d. refl;
@@ -296,7 +260,7 @@ module _ (pref : ℕ) (r : LockState) (rest : List Packet) (i : Inv r) (j : Mach
       let aw : Away a = away-of a (of .away) in
       let anew : Agent = changed a (a .holders) (a .queue) 0 in
       let re : fitsAway anew ≡ true = away-fits anew (record { sized = aw .sized; empty = aw .empty; small = omega arith }) in
-      keep-reowned r _ rest i sp (sym ow) (silent-equal r _ rest i sp refl e) (λ d. omega (arith, nobody (a .holders) d (aw .empty))) j u jj _ _
+      keep-reowned r _ rest i sp (sym ow) (silent-equal r _ rest i sp refl e) (λ d. omega (arith, nobody (a .holders) d (aw .empty))) (λ d. refl) j u jj _ _
       (record {
         waits = λ d n. omega arith;
         lists = λ d. omega (arith, nobody (a .holders) d (aw .empty));
@@ -348,7 +312,7 @@ module _ (pref : ℕ) (r : LockState) (rest : List Packet) (i : Inv r) (j : Mach
   good-on st o k x q e sp = keep-on i st jj _ _ refl refl refl (λ w. request-any _ _ _ a w x q) (near-owner r o k i e) sp
 
   pub good-decides : (m : Message) (o : Owner) (x : Bool) → r .decider .owner ≡ o → Split r (came m x ∷ []) rest → Good r j u rest (decides m o site (came m x))
-  unfolding decides decidesAcquire decidesFree decidesGrant
+  unfolding decides decidesAcquire decidesRelease decidesFree decidesGrant
   good-decides (Acquire c m false) Unowned x e sp = keep-first c m x e sp
   good-decides (Acquire c m true) Unowned x e sp = impossible i sp (rw e (no-marked x ToDecider _ a c m Unowned refl))
   good-decides (Acquire c m false) (Owned o k) x e sp = good-by r j u rest (mayShare site m) _ _ yes (λ q. good-on (noted m e) o k x acquire-of e sp)
@@ -358,8 +322,8 @@ module _ (pref : ℕ) (r : LockState) (rest : List Packet) (i : Inv r) (j : Mach
           let both = may-share site m q in
           keep-shares c k x (e ∙ shared-owner-is o k (rw e at (both .0))) (rw (both .1) at sp)
   good-decides (Acquire c m true) (Owned o k) x e sp = good-on (still refl) o k x acquire-of e sp
-  good-decides (Release c) Unowned x e sp = impossible i sp (rw e (no-release x ToDecider _ a c))
-  good-decides (Release c) (Owned o k) x e sp = good-on (still refl) o k x release-of e sp
+  good-decides (Release c) Unowned x e sp = keep-on i (still refl) jj _ _ refl refl refl (λ w. request-any _ _ _ a w x release-of) refl sp
+  good-decides (Release c) (Owned o k) x e sp = keep-on i (still refl) jj _ _ refl refl refl (λ w. request-any _ _ _ a w x release-of) (near-owner r o k i e) sp
   good-decides Free o false e sp = impossible i sp (no-free _ ToDecider _ a)
   good-decides Free Unowned true e sp = impossible i sp (rw e (no-freed _ a))
   good-decides Free (Owned o k) true e sp =

@@ -8,17 +8,17 @@ use lib.ListN.{set, replicate}
 use Rattle.model.specs.declared.{MachineId.MachineId, ClientId.ClientId, Mode.the-variants.{Exclusive, Shared}, Owner.Owner}
 use Rattle.model.specs.declared.{Owner.the-variants.{Free as Unowned, Owned}, Waiter.Waiter, Agent.Agent, AgentSlot.AgentSlot, Address.Address}
 use Rattle.model.specs.declared.{Address.the-variants.{Decider as ToDecider, Machine as ToMachine}, Message.Message}
-use Rattle.model.specs.declared.{Message.the-variants.{Free, Acquire, Grant, Release}, Packet.Packet, Wire.Wire}
-use Rattle.model.specs.declared.{ClientState.ClientState, LockState.LockState, Cluster.Cluster}
+use Rattle.model.specs.declared.{Message.the-variants.{Free, Acquire, Grant, Release}, Packet.Packet, Wire.Wire, Status.Status}
+use Rattle.model.specs.declared.{Status.the-variants.{Idle, Waiting, Holding}, ClientState.ClientState, LockState.LockState, Cluster.Cluster}
 use Rattle.model.specs.Lists.{any, all, padded}
 use Rattle.model.specs.States.{locks, machines, tasks, clients, queueCapacity, wireCapacity, blankWaiter, queueOf, noHolders, newAgent, someAgent, noAgent}
 use Rattle.model.specs.States.{idle, plain, blankPacket, wireOf, freshLock, preferences}
 use Rattle.model.specs.Drain.{allowance}
 use Rattle.model.specs.WellFormed.{shaped, isBlankWaiter, distinct, queueFormed, agentFormed, isBlankAgent, slotFormed, messageFormed, packetFormed}
-use Rattle.model.specs.WellFormed.{isBlankPacket, wireFormed, lockFormed, wellFormed}
+use Rattle.model.specs.WellFormed.{isBlankPacket, wireFormed, clientFormed, lockFormed, wellFormed}
 
 -- The papers' numbers. Everything else goes by their names.
-pub sizes-are : (locks ≡ 8) × (machines ≡ 4) × (tasks ≡ 4) × (clients ≡ 16) × (queueCapacity ≡ 16) × (wireCapacity ≡ 33) × (allowance ≡ 16384)
+pub sizes-are : (locks ≡ 8) × (machines ≡ 4) × (tasks ≡ 4) × (clients ≡ 16) × (queueCapacity ≡ 16) × (wireCapacity ≡ 49) × (allowance ≡ 32768)
     × (preferences ≡ 2)
 sizes-are = (refl, refl, refl, refl, refl, refl, refl, refl)
 
@@ -83,7 +83,7 @@ abbrev packet : Message → Address → Bool → AgentSlot → Packet
 packet m t b x = circling 0 m t b x
 
 abbrev blankWire : List Packet
-blankWire = replicate 33 blankPacket
+blankWire = replicate 49 blankPacket
 
 -- such a packet alone on the wire
 abbrev alone : Packet → Cluster
@@ -236,26 +236,39 @@ ofMessages =
 -- the wire's length, each packet on it, and the blanks past its end
 abbrev ofWires : List Bound
 ofWires =
-    sized (λ ps. onWire ps 0) 33 blankPacket
-    ++ (differ (onWire (replicate 33 (plain (Acquire (client 0) Exclusive false) ToDecider))) 33 34 ∷ [])
-    ++ each (below 33)
+    sized (λ ps. onWire ps 0) 49 blankPacket
+    ++ (differ (onWire (replicate 49 (plain (Acquire (client 0) Exclusive false) ToDecider))) 49 50 ∷ [])
+    ++ each (below 49)
     (λ i.
-    differ (λ c. onWire (set (replicate 33 (plain (release 0) ToDecider)) i (packet (grant c) away false carried)) 33) 15 16
+    differ (λ c. onWire (set (replicate 49 (plain (release 0) ToDecider)) i (packet (grant c) away false carried)) 49) 15 16
     ∷ differ (past i) blankPacket (packet (acquire 0) ToDecider false noAgent)
     ∷ differ (past i) blankPacket (packet Free away false noAgent)
     ∷ differ (past i) blankPacket (packet Free ToDecider true noAgent)
     ∷ differ (past i) blankPacket (circling 1 Free ToDecider false noAgent)
     ∷ differ (past i) blankPacket (packet Free ToDecider false carried)
     ∷ [])
-    ++ ofNone last (λ x. past 32 (packet Free ToDecider false x))
+    ++ ofNone last (λ x. past 48 (packet Free ToDecider false x))
   where
     past : ℕ → Packet → Cluster
     past i p = onWire (set blankWire i p) 0
 
+-- only who waits has the note of a lost GRANT, in either mode
+abbrev ofNotes : List Bound
+ofNotes =
+    each (below 16)
+    (λ c.
+    differ (noted c) (Waiting Shared) Idle
+    ∷ differ (noted c) (Waiting Exclusive) (Holding Shared)
+    ∷ differ (noted c) (Waiting Shared) (Holding Exclusive)
+    ∷ [])
+  where
+    noted : ℕ → Status → Cluster
+    noted c st = lock 0 (state (Owned Shared (machine 0)) nowhere (set allIdle c (record { status = st; lost = true })) (wireOf []))
+
 abbrev Tested : List Bound → Type 0
 Tested bs = (all (λ (b : Bound). wellFormed (b .within)) bs ≡ true) × (any (λ (b : Bound). wellFormed (b .outside)) bs ≡ false)
 
-pub bounds-tested : Tested ofLocks × Tested ofPreferences × Tested ofSlots × Tested ofCarried × Tested ofMessages × Tested ofWires
+pub bounds-tested : Tested ofLocks × Tested ofPreferences × Tested ofSlots × Tested ofCarried × Tested ofMessages × Tested ofWires × Tested ofNotes
 unfolding wellFormed lockFormed wireFormed packetFormed messageFormed slotFormed agentFormed isBlankAgent isBlankPacket isBlankWaiter queueFormed distinct
-    shaped padded queueOf noAgent blankPacket wireOf freshLock
-bounds-tested = ((refl, refl), (refl, refl), (refl, refl), (refl, refl), (refl, refl), (refl, refl))
+    clientFormed shaped padded queueOf noAgent blankPacket wireOf freshLock
+bounds-tested = ((refl, refl), (refl, refl), (refl, refl), (refl, refl), (refl, refl), (refl, refl), (refl, refl))

@@ -1,9 +1,10 @@
 -- How often a packet has circled (request 7 of document 02): after every list of calls the counts on a wire are the numbers of its history, as far as 255.
 use Rattle.laws.specs.Formed.{parts, packet-at}
 use Rattle.laws.specs.Clusters.{each-lock-formed}
-use Rattle.laws.specs.CallSteps.{stepOf, Allowed, may-acquire, may-release, may-deliver, perform-elsewhere}
+use Rattle.laws.specs.CallSteps.{stepOf, Allowed, may-acquire, may-release, may-deliver, may-lose, may-give-up, perform-elsewhere}
 use Rattle.model.specs.Trace.{sameLock}
 use lib.ListN.{drop}
+use mathlib.Core.List.{append-nil}
 use lib.Seq.{drop-append-seam}
 use Rattle.theorems.specs.Names.{LockId, MachineId, ClientId, Mode, Owner, Unowned, Owned, Waiter, Agent, AgentSlot, Address, ToDecider, ToMachine}
 use Rattle.theorems.specs.Names.{Message, Free, Acquire, Grant, Release, Packet, LockState, Cluster, Call, _≡_, refl, sym, ap, _∙_, Bool, true, false}
@@ -15,16 +16,16 @@ use Rattle.theorems.specs.Names.{mayShare, current, toOwner, decidesAcqu
 use Rattle.theorems.specs.Names.{installs, grantArrives, rejectedGrantArrives, marked, unmarked, acquireArrives, releaseArrives, freeArrives, arrives}
 use Rattle.theorems.specs.Names.{atMachine, packetAt, delivers, acquireStep, releaseStep, takes, deliverStep, perform, lockOf, run, fresh, isAccepted}
 use Rattle.theorems.specs.Names.{inParts, circledFormed, messageNumbers, sameNumbers, sameMessage, numberOf, sentBehind, ownNumbers, numbersAfter}
-use Rattle.theorems.specs.Names.{numbersOf}
+use Rattle.theorems.specs.Names.{numbersOf, decidesRelease, queues, giveUpStep, clientGivesUp, loseStep, drops, grantIsLost}
 use Rattle.theorems.specs.Tally.{tally}
 use Rattle.theorems.specs.Weights.{one, oneW}
 use Rattle.theorems.specs.Invariant.{Inv}
 use Rattle.theorems.specs.InvariantStep.{Split, split-at}
 use Rattle.theorems.specs.Facts.{flag-none, one-self}
 use Rattle.theorems.specs.Sent.{Good}
-use Rattle.theorems.specs.Clients.{names-none, good-client-acquires, good-client-releases}
+use Rattle.theorems.specs.Clients.{names-none, good-client-acquires, good-client-releases, good-client-gives-up}
 use Rattle.theorems.specs.Install.{single}
-use Rattle.theorems.specs.Steps.{verdict, good-deliver, Says, says-by, after-step}
+use Rattle.theorems.specs.Steps.{verdict, good-deliver, good-lose, Says, says-by, after-step}
 use Rattle.theorems.specs.Runs.{Reached, lock-fresh, reached-fresh, reached-next, Answered, answered, denied-by, accepted-by}
 use Rattle.theorems.specs.Traced.{lock-of}
 use Rattle.theorems.specs.Statements.{HowOften}
@@ -100,14 +101,14 @@ module _ (v : Site) (p : Packet) (n : ℕ) (e : p .circled ≡ min 255 n) where
     sent-on m k d = sends (numberOf (came m) n) _ (rw (same-message m) e) none
 
     decider-counts : (m : Message) (o : Owner) → circledFormed m (p .circled) ≡ true → Says (Right (came m) n) (decides m o v (came m))
-    unfolding decides decidesAcquire decidesFree decidesGrant toOwner sameNumbers
+    unfolding decides decidesAcquire decidesRelease decidesFree decidesGrant toOwner sameNumbers
     decider-counts (Acquire c m false) Unowned f = more refl none
     decider-counts (Acquire c m true) Unowned f = tt
     decider-counts (Acquire c m false) (Owned o k) f =
         says-by _ (mayShare v m) _ _ (more refl (sends (numberOf (came (Acquire c m false)) n) _ (rw (and-false, and-false)) none))
         (sent-on (Acquire c m false) k b)
     decider-counts (Acquire c m true) (Owned o k) f = sent-on (Acquire c m true) k b
-    decider-counts (Release c) Unowned f = tt
+    decider-counts (Release c) Unowned f = sends (numberOf (came (Release c)) n) _ (rw (same-message (Release c)) e) none
     decider-counts (Release c) (Owned o k) f = sent-on (Release c) k b
     decider-counts Free Unowned f = tt
     decider-counts Free (Owned o k) f = says-by _ (current (v .decider) (came Free)) _ _ none (sent-on Free k true)
@@ -139,7 +140,7 @@ module _ (v : Site) (p : Packet) (n : ℕ) (e : p .circled ≡ min 255 n) where
     unfolding releaseArrives sameNumbers
     release-counts c =
         says-by _ (lists (v .slot) c) _ _ (leaves-new (numberOf (arrived (Release c)) n) (λ a. refl) (λ d m a. refl) v (v .slot .agent) c)
-        (sent-back (Release c))
+        (says-by _ (queues (v .slot) c) _ _ none (sent-back (Release c)))
 
     free-counts : (y : Bool) (s : AgentSlot) → Says (Right (arrived Free) n) (freeArrives y v s)
     unfolding freeArrives
@@ -216,13 +217,20 @@ module _ (s : LockState) (ns : List ℕ) (b : Beside (packets (s .wire)) ns) whe
 
   step-counts : (pref : ℕ) (a : Call) → Allowed a s → lockFormed pref s ≡ true → Inv s
       → Beside (packets (stepOf pref a s .state .wire)) (numbersAfter a s (stepOf pref a s .state) ns)
-  unfolding numbersAfter acquireStep releaseStep deliverStep takes
+  unfolding numbersAfter acquireStep releaseStep deliverStep takes giveUpStep clientGivesUp loseStep drops grantIsLost
   step-counts pref _ (may-acquire {k = k} {t = t} {m = m} kb tb n id un) f i =
       let c : ClientId = clientOf k t in
       own-counts c _ (good-client-acquires pref s i c (omega arith) id (names-none c (packets (s .wire)) un) (modeOf m)) (acquire-new _ c (modeOf m))
   step-counts pref _ (may-release {k = k} {t = t} kb tb n h) f i =
       let c : ClientId = clientOf k t in
       own-counts c _ (good-client-releases pref s i c (omega arith) n h) (release-new _ c)
+  step-counts pref _ (may-give-up {k = k} {t = t} kb tb n h) f i =
+      let c : ClientId = clientOf k t in
+      own-counts c _ (good-client-gives-up pref s i c (omega arith) n h) (more refl none)
+  step-counts pref _ (may-lose {i = j} h l) f i =
+      let rest : List Packet = removed (packets (s .wire)) j in
+      after-step _ _ (λ v qs. qs ≡ []) (λ t. Beside (packets (t .wire)) (removed ns j)) _ rest s (good-lose pref s i j h l) refl
+      (λ v qs y. rw (y, append-nil, packets-of) (beside-removed b j))
   step-counts pref _ (may-deliver {i = j} h) f i =
       let p : Packet = packetAt s j in
       let rest : List Packet = removed (packets (s .wire)) j in

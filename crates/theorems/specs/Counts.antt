@@ -1,10 +1,10 @@
 -- The two counts of a lock's state (the model's Counts) are what the invariant says of agents, incarnations and marks.
 use Rattle.model.specs.Drain.{drainCalls, drain}
 use Rattle.theorems.specs.Names.{LockId, ClientId, Agent, AgentSlot, Packet, Status, LockState, Cluster, Call, Answer, _≡_, refl, sym, ap, _∙_, Bool}
-use Rattle.theorems.specs.Names.{true, false, false≢true, List, [], _∷_, ℕ, _≤_, _<_, arith, length, eqb, leb, ltb, eqb-true, eqb-false, eq-eqb, ne-eqb}
-use Rattle.theorems.specs.Names.{leb-true, ltb-true, ltb-false, List·getD-eq-default, all, removed, count, someAgent, noAgent, lockIn, packets, current}
-use Rattle.theorems.specs.Names.{packetAt, number, isFree, names, after, agentsIn, isMarked, marksIn, uncounted, bool-cases, machines, blankPacket}
-use Rattle.theorems.specs.Names.{Accepted, Refused, isAccepted, both, and-left, and-right, answersOf, fresh}
+use Rattle.theorems.specs.Names.{true, false≢true, List, [], _∷_, ℕ, _≤_, _<_, arith, length, eqb, ltb, eqb-true, eqb-false, eq-eqb, ne-eqb, ltb-true}
+use Rattle.theorems.specs.Names.{ltb-false, List·getD-eq-default, all, removed, count, someAgent, noAgent, lockIn, packets, current, packetAt, number}
+use Rattle.theorems.specs.Names.{isFree, names, after, agentsIn, isMarked, marksIn, uncounted, bool-cases, machines, blankPacket, Accepted, Refused}
+use Rattle.theorems.specs.Names.{isAccepted, both, and-left, and-right, answersOf, fresh}
 use Rattle.theorems.specs.Tally.{flag, tally, tally-removed, tally-ext, count-tally}
 use Rattle.theorems.specs.Weights.{slotAt, weight, agentS, incarnationP, incarnationS, markAll, markP, ownedF, fitsP, misfitP}
 use Rattle.theorems.specs.Invariant.{Inv}
@@ -13,7 +13,7 @@ use Rattle.theorems.specs.Facts.{fit, came-fits, away-of, slot-home, own
 use Rattle.theorems.specs.Facts.{wire-bound, namesM, silent-unshared}
 use Rattle.theorems.specs.Exclusion.{carried-away}
 use Rattle.theorems.specs.Runs.{reached}
-use Rattle.theorems.specs.Statements.{isPlaced, Drains, ThirtyThree, IncarnationSound}
+use Rattle.theorems.specs.Statements.{fromTests, isPlaced, Drains, EnoughPlaces, IncarnationSound}
 use Rattle.theorems.specs.Theorems.{never-refused-inside}
 use Rattle.theorems.specs.Drains.{demand3}
 
@@ -88,7 +88,7 @@ module _ (s : LockState) (i : Inv s) where
         (λ q. q ∙ sym (ne-eqb (marksIn s) 0 (λ z. eqb-false a d q (omega (arith, in-packet, z, small, i .incs)))))
 
   -- ---- who is named
-  named : (c : ClientId) → count (names c) ps ≤ 2
+  named : (c : ClientId) → count (names c) ps ≤ 3
   named c =
       let same = tally-ext (λ (p : Packet). namesM (c .0) (p .message)) (λ p. flag (names c p)) (λ p. names-are c (p .message)) ps in
       omega (arith, count-tally (names c) ps, named-below s i (c .0))
@@ -105,10 +105,9 @@ incarnation-sound n cs =
     }
 
 -- ---- no answer is 9 or 10
-small-placed : (a : Answer) → leb (number a) 8 ≡ true → isPlaced a ≡ true
-small-placed a e =
-    let b : number a ≤ 8 = leb-true (number a) 8 e in
-    rw (ne-eqb (number a) 9 (λ q. omega (arith, b, q)), ne-eqb (number a) 10 (λ q. omega (arith, b, q)))
+tested-placed : (a : Answer) → fromTests a ≡ true → isPlaced a ≡ true
+tested-placed a e =
+    rw (ne-eqb (number a) 9 (λ q. false≢true (rw q at e)), ne-eqb (number a) 10 (λ q. false≢true (rw q at e)))
 
 accepted-placed : (a : Answer) → isAccepted a ≡ true → isPlaced a ≡ true
 accepted-placed Accepted e = refl
@@ -118,14 +117,14 @@ all-so : {A : Type 0} (p q : A → Bool) → ((x : A) → p x ≡ true → q x �
 all-so p q h [] e = refl
 all-so p q h (x ∷ xs) e = both (q x) _ (h x (and-left (p x) _ e)) (all-so p q h xs (and-right (p x) _ e))
 
-drain-placed : (x : Cluster) (l : LockId) (phase : ClientId → Status) → Drains x l phase
+drain-placed : (x : Cluster) (l : LockId) (phase : ClientId → Status) (lost : ClientId → Bool) → Drains x l phase lost
     → all isPlaced (drain x l .answer ∷ answersOf (drainCalls l x) x) ≡ true
-drain-placed x l phase d =
+drain-placed x l phase lost d =
     both (isPlaced (drain x l .answer)) _ (rw (isPlaced, d .answered)) (all-so isAccepted isPlaced accepted-placed (answersOf (drainCalls l x) x) (d .accepted))
 
-pub thirty-three : (n : ℕ) (cs : List Call) → ThirtyThree n cs
+pub enough-places : (n : ℕ) (cs : List Call) → EnoughPlaces n cs
 unfolding ownedF
-thirty-three n cs l =
+enough-places n cs l =
     let s : LockState = lockIn (after n cs) l in
     let i : Inv s = reached n cs .invs l in
     record {
@@ -137,6 +136,6 @@ thirty-three n cs l =
       named = named s i;
       frees = frees-one s i;
       wire = wire-bound s i;
-      calls = all-so (λ (a : Answer). leb (number a) 8) isPlaced small-placed (answersOf cs (fresh n .cluster)) (never-refused-inside n cs);
-      drains = λ lb. drain-placed (after n cs) l _ (demand3 n cs .drains l lb);
+      calls = all-so fromTests isPlaced tested-placed (answersOf cs (fresh n .cluster)) (never-refused-inside n cs);
+      drains = λ lb. drain-placed (after n cs) l _ _ (demand3 n cs .drains l lb);
     }

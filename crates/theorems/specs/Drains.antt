@@ -3,7 +3,7 @@ use Rattle.model.specs.Drain.{allowance, Next, none, some, nextCall, Quiescent,
 use Rattle.model.specs.Drain.{drain}
 use Rattle.model.specs.Refusals.{first}
 use Rattle.laws.specs.CallSteps.{stepOf, perform-elsewhere, perform-here}
-use Rattle.laws.specs.Next.{NextIs, delivers-first, releases-holder, next-is, rests, Goes, goes}
+use Rattle.laws.specs.Next.{NextIs, delivers-first, releases-holder, gives-up, next-is, rests, Goes, goes}
 use Rattle.laws.specs.Formed.{lock-formed}
 use Rattle.theorems.specs.Names.{LockId, MachineId, TaskId, ClientId, Mode, Address, ToDecider, ToMachine, Message, Free, Acquire, Grant, Release}
 use Rattle.theorems.specs.Names.{Packet, Status, Idle, Waiting, Holding, LockState, Cluster, Call, ReleaseCall, DeliverCall, Accepted, Outcome, _≡_}
@@ -11,40 +11,65 @@ use Rattle.theorems.specs.Names.{refl, sym, ap, _∙_, Bool, true, false
 use Rattle.theorems.specs.Names.{length, eqb, eqb-true, eq-eqb, lt-leb, pick, all, removed, clientOf, statusOf, lockIn, packets, freshLock, wellFormed}
 use Rattle.theorems.specs.Names.{isHolding, packetAt, after, answersOf, deliverStep, settled, perform, lockOf, run, View, isAccepted, toMachine, None}
 use Rattle.theorems.specs.Names.{handlingsOf, lastTold, isGrantFor, showsGrant, afterGrant, afterRelease, sees, watch, and-left, locks, fresh, inParts}
-use Rattle.theorems.specs.Weights.{statusAt, waitsF, holdF, few}
+use Rattle.theorems.specs.Names.{ClientState, GiveUpCall, Shared, noteOf, viewed, afterGiveUp, _-_}
+use Rattle.theorems.specs.Weights.{waitsF, holdF, few, clientIn, waitF}
 use Rattle.theorems.specs.Invariant.{Inv}
 use Rattle.theorems.specs.InvariantStep.{Split, split-at}
-use Rattle.theorems.specs.Facts.{grant-waits}
-use Rattle.theorems.specs.Fresh.{all-idle}
+use Rattle.theorems.specs.Facts.{grant-waits, grant-unnoted, Awaits, awaits, gave-up, waiting-is, waits-one, flag-none}
+use Rattle.model.specs.Trace.{afterGrantIn}
+use Rattle.theorems.specs.Tally.{flag}
+use Rattle.theorems.specs.Fresh.{clients-idle}
 use Rattle.theorems.specs.Runs.{sound-step, Reached, reached-next, reached}
-use Rattle.theorems.specs.Traced.{agrees-call}
+use Rattle.theorems.specs.Traced.{agrees-call, asSeen}
 use Rattle.theorems.specs.Statements.{provedBound, Drains, Demand3}
-use Rattle.theorems.specs.Theorems.{trace-agrees, exclusion-of-trace}
+use Rattle.theorems.specs.Theorems.{trace-agrees, notes-agree, as-seen, exclusion-of-trace}
 use Rattle.theorems.specs.StepsLeft.{stepsLeft, steps-bound}
-use Rattle.theorems.specs.StepsFall.{deliver-falls, release-falls}
+use Rattle.theorems.specs.StepsFall.{deliver-falls, release-falls, give-up-falls}
 use Rattle.theorems.specs.Quiescence.{is-fresh}
 
--- ---- the view of a client along a drain: its grants, and 1 more while it waits, stay as many
+-- ---- the view of a client along a drain: its grants, and 1 more while it waits and its grant is not lost, stay as many; so does, for the times it gave up,
+-- 1 more while it is
+abbrev awaitsF : ClientState → ℕ
+awaitsF x = waitsF (x .status) - flag (x .lost)
+
 abbrev count : View → ℕ
-count v = v .grants + waitsF (v .phase)
+count v = v .grants + awaitsF (asSeen v)
 
--- the call on x, accepted, shows each client no grant but one that it waits for
+abbrev losses : View → ℕ
+losses v = v .given + flag (v .lost)
+
+-- who holds has no note, and who has one waits, for a shared lock
+held-unnoted : (s : LockState) → Inv s → (c : ClientId) (m : Mode) → statusOf s c ≡ Holding m → noteOf s c ≡ false
+unfolding waitF
+held-unnoted s i c m h = flag-none _ (omega (arith, rw h at (i .noted (c .0))))
+
+noted-waiting : (s : LockState) → Inv s → (c : ClientId) → noteOf s c ≡ true → statusOf s c ≡ Waiting Shared
+noted-waiting s i c q = waiting-is Shared _ (omega (arith, rw q at (i .noted (c .0)), waits-one Shared (statusOf s c)))
+
+-- the call on x, accepted, keeps both
 Counted : LockId → Call → Cluster → Type 0
-Counted l a x = (c : ClientId) (v : View) → v .phase ≡ statusOf (lockIn x l) c → count (sees l c a x (perform a x .cluster) v) ≡ count v
+Counted l a x =
+    (c : ClientId) (v : View) → asSeen v ≡ clientIn (lockIn x l) (c .0)
+    → (count (sees l c a x (perform a x .cluster) v) ≡ count v) × (losses (sees l c a x (perform a x .cluster) v) ≡ losses v)
 
-count-waiting : (v : View) (n : Mode) → v .phase ≡ Waiting n → count (afterGrant v) ≡ count v
-unfolding waitsF
-count-waiting v n e = rw e (omega arith)
+-- a GRANT that is delivered finds its client waiting for it, or idle
+counts-granted : (n : Mode) (v : View) → Awaits n (v .phase) → v .lost ≡ false → (count (afterGrant v) ≡ count v) × (losses (afterGrant v) ≡ losses v)
+counts-granted n v a q = go (v .phase) a refl
+  where
+    go : (st : Status) → Awaits n st → v .phase ≡ st → (count (afterGrantIn st v) ≡ count v) × (losses (afterGrantIn st v) ≡ losses v)
+    go _ gave-up e = (refl, refl)
+    go _ awaits e = (unfold waitsF in rw (e, q) (omega arith), rw q)
 
--- a GRANT that is delivered finds its client waiting
 grant-finds : (s : LockState) (i : Inv s) (rest : List Packet) (c : ClientId) (p : Packet) (t : Address) (m : Message) (b : Bool)
-    → Split s (inParts m t b (p .carried .present) p ∷ []) rest → (toMachine t && (isGrantFor c m && not b)) ≡ true → (n : Mode) × (statusOf s c ≡ Waiting n)
+    → Split s (inParts m t b (p .carried .present) p ∷ []) rest → (toMachine t && (isGrantFor c m && not b)) ≡ true
+    → (n : Mode) × (Awaits n (statusOf s c) × (noteOf s c ≡ false))
 grant-finds s i rest c p ToDecider m b sp e = absurd (false≢true e)
 grant-finds s i rest c p (ToMachine k) (Acquire d n g) b sp e = absurd (false≢true e)
 grant-finds s i rest c p (ToMachine k) (Release d) b sp e = absurd (false≢true e)
 grant-finds s i rest c p (ToMachine k) Free b sp e = absurd (false≢true e)
 grant-finds s i rest c p (ToMachine k) (Grant d n) b sp e =
-    (n, ap (λ (z : ℕ). statusAt s z) (eqb-true (c .0) (d .0) (and-left (eqb (c .0) (d .0)) _ e)) ∙ grant-waits _ i refl sp)
+    let same : c .0 ≡ d .0 = eqb-true (c .0) (d .0) (and-left (eqb (c .0) (d .0)) _ e) in
+    (n, (rw same (grant-waits _ i refl sp), rw same (grant-unnoted _ i refl sp)))
 
 deliver-counted : (x : Cluster) (l : LockId) (j : ℕ) → Inv (lockIn x l) → j < length (packets (lockIn x l .wire)) → Counted l (DeliverCall l j) x
 unfolding Counted sees
@@ -53,21 +78,44 @@ deliver-counted x l j i b c v e = rw (eq-eqb (l .0) (l .0) refl) (go (showsGrant
     p : Packet
     p = packetAt (lockIn x l) j
 
-    go : (t : Bool) → showsGrant c (packetAt (lockIn x l) j) ≡ t → count (pick t (afterGrant v) v) ≡ count v
-    go false q = refl
+    go : (t : Bool) → showsGrant c (packetAt (lockIn x l) j) ≡ t
+        → (count (pick t (afterGrant v) v) ≡ count v) × (losses (pick t (afterGrant v) v) ≡ losses v)
+    go false q = (refl, refl)
     go true q =
-        let w : (n : Mode) × (statusOf (lockIn x l) c ≡ Waiting n) =
+        let w : (n : Mode) × (Awaits n (statusOf (lockIn x l) c) × (noteOf (lockIn x l) c ≡ false)) =
         grant-finds (lockIn x l) i (removed (packets (lockIn x l .wire)) j) c p (p .to) (p .message) (p .rejected) (split-at (lockIn x l) j p b refl) q in
-        count-waiting v (w .0) (e ∙ w .1)
+        let ph : v .phase ≡ statusOf (lockIn x l) c = ap (λ (y : ClientState). y .status) e in
+        counts-granted (w .0) v (rw ph (w .1 .0)) (ap (λ (y : ClientState). y .lost) e ∙ w .1 .1)
 
-release-counted : (x : Cluster) (l : LockId) (k : MachineId) (t : TaskId) (m : Mode) → statusOf (lockIn x l) (clientOf k t) ≡ Holding m
+-- who releases holds, and has no note
+release-counted : (x : Cluster) (l : LockId) (k : MachineId) (t : TaskId) (m : Mode) → Inv (lockIn x l) → statusOf (lockIn x l) (clientOf k t) ≡ Holding m
     → Counted l (ReleaseCall l k t) x
 unfolding Counted sees waitsF
-release-counted x l k t m ho c v e = rw (eq-eqb (l .0) (l .0) refl) (go (eqb (c .0) (clientOf k t .0)) refl)
+release-counted x l k t m i ho c v e = rw (eq-eqb (l .0) (l .0) refl) (go (eqb (c .0) (clientOf k t .0)) refl)
   where
-    go : (b : Bool) → eqb (c .0) (clientOf k t .0) ≡ b → count (pick b (afterRelease v) v) ≡ count v
-    go false q = refl
-    go true q = let w : v .phase ≡ Holding m = e ∙ ap (λ (z : ℕ). statusAt (lockIn x l) z) (eqb-true (c .0) (clientOf k t .0) q) ∙ ho in rw w
+    go : (b : Bool) → eqb (c .0) (clientOf k t .0) ≡ b → (count (pick b (afterRelease v) v) ≡ count v) × (losses (pick b (afterRelease v) v) ≡ losses v)
+    go false q = (refl, refl)
+    go true q =
+        let same : c .0 ≡ clientOf k t .0 = eqb-true (c .0) (clientOf k t .0) q in
+        let here : asSeen v ≡ clientIn (lockIn x l) (clientOf k t .0) = e ∙ ap (λ (z : ℕ). clientIn (lockIn x l) z) same in
+        let w : v .phase ≡ Holding m = ap (λ (y : ClientState). y .status) here ∙ ho in
+        let n : v .lost ≡ false = ap (λ (y : ClientState). y .lost) here ∙ held-unnoted (lockIn x l) i (clientOf k t) m ho in
+        (rw (w, n), rw n)
+
+-- who gives up had lost its grant
+give-up-counted : (x : Cluster) (l : LockId) (k : MachineId) (t : TaskId) (m : Mode) → statusOf (lockIn x l) (clientOf k t) ≡ Waiting m
+    → noteOf (lockIn x l) (clientOf k t) ≡ true → Counted l (GiveUpCall l k t) x
+unfolding Counted sees waitsF
+give-up-counted x l k t m wa nt c v e = rw (eq-eqb (l .0) (l .0) refl) (go (eqb (c .0) (clientOf k t .0)) refl)
+  where
+    go : (b : Bool) → eqb (c .0) (clientOf k t .0) ≡ b → (count (pick b (afterGiveUp v) v) ≡ count v) × (losses (pick b (afterGiveUp v) v) ≡ losses v)
+    go false q = (refl, refl)
+    go true q =
+        let same : c .0 ≡ clientOf k t .0 = eqb-true (c .0) (clientOf k t .0) q in
+        let here : asSeen v ≡ clientIn (lockIn x l) (clientOf k t .0) = e ∙ ap (λ (z : ℕ). clientIn (lockIn x l) z) same in
+        let w : v .phase ≡ Waiting m = ap (λ (y : ClientState). y .status) here ∙ wa in
+        let n : v .lost ≡ true = ap (λ (y : ClientState). y .lost) here ∙ nt in
+        (rw (w, n) (omega arith), rw n (omega arith))
 
 -- ---- what a drain does next on a cluster that calls lead to
 data Onward (x : Cluster) (l : LockId) : Type 0 where
@@ -92,10 +140,14 @@ module _ (x : Cluster) (l : LockId) (lb : l .0 < locks) (h : Reached x) where
       go [] e b = absurd (omega arith)
       go (p ∷ ps) e b = deliver-falls (x .preference) s (h .invs l) p ps e
   next-falls _ (releases-holder k t m i b e st) = release-falls (x .preference) s (h .invs l) (clientOf k t) m (omega (arith, h .invs l .all-clients)) st e
+  next-falls _ (gives-up k t i b e nb nt) =
+      let w = noted-waiting s (h .invs l) (clientOf k t) nt in
+      give-up-falls (x .preference) s (h .invs l) (clientOf k t) Shared (omega (arith, h .invs l .all-clients)) w nt e
 
   next-counted : (a : Call) → NextIs l s a → Counted l a x
   next-counted _ (delivers-first b) = deliver-counted x l 0 (h .invs l) b
-  next-counted _ (releases-holder k t m i b e st) = release-counted x l k t m st
+  next-counted _ (releases-holder k t m i b e st) = release-counted x l k t m (h .invs l) st
+  next-counted _ (gives-up k t i b e nb nt) = give-up-counted x l k t Shared (noted-waiting s (h .invs l) (clientOf k t) nt) nt
 
   -- the call passes its tests, so it is its step
   onward : Onward x l
@@ -111,7 +163,7 @@ module _ (x : Cluster) (l : LockId) (lb : l .0 < locks) (h : Reached x) where
       go : (n : Next) → nextCall l s ≡ n → Onward x l
       go none e =
           let r = rests l s e in
-          stops e (is-fresh (x .preference) s (h .invs l) (lock-formed x l (h .formed) lb) (r .wire) (λ d. not-holding _ (r .nobody d)))
+          stops e (is-fresh (x .preference) s (h .invs l) (lock-formed x l (h .formed) lb) (r .wire) (λ d. not-holding _ (r .nobody d)) (r .unnoted))
       go (some a) e = let n = next-is l s a e in stepping a e n (goes l x a (h .formed) lb n)
 
 -- ---- the whole drain
@@ -123,7 +175,9 @@ record Ends (x : Cluster) (l : LockId) (n : ℕ) (d : Drainage) : Type 0 where
   accepted : all isAccepted (answersOf (d .calls) x) ≡ true
   quiescent : Quiescent l (lockIn (d .cluster) l)
   others : (j : LockId) → (j .0 ≡ l .0 → ⊥) → lockIn (d .cluster) j ≡ lockIn x j
-  counted : (c : ClientId) (v : View) → v .phase ≡ statusOf (lockIn x l) c → watch l c (d .calls) x v .grants ≡ v .grants + waitsF (statusOf (lockIn x l) c)
+  counted : (c : ClientId) (v : View) → asSeen v ≡ clientIn (lockIn x l) (c .0)
+      → (watch l c (d .calls) x v .grants ≡ v .grants + awaitsF (clientIn (lockIn x l) (c .0)))
+      × (watch l c (d .calls) x v .given ≡ v .given + flag (noteOf (lockIn x l) c))
 
 drainage-stops : (n : ℕ) (l : LockId) (x : Cluster) → nextCall l (lockIn x l) ≡ none → drainage n l x ≡ ending Accepted x
 unfolding drainage
@@ -135,10 +189,10 @@ drainage-steps : (n : ℕ) (l : LockId) (x : Cluster) (a : Call) → nextCall l 
 unfolding drainage
 drainage-steps n l x a e q = rw (e, q, drainage)
 
-idle-waits : (x : Cluster) (l : LockId) → lockIn x l ≡ freshLock → (c : ClientId) (v : View) → v .phase ≡ statusOf (lockIn x l) c
-    → v .grants ≡ v .grants + waitsF (statusOf (lockIn x l) c)
-unfolding waitsF
-idle-waits x l f c v p = rw (f, all-idle (c .0)) (omega arith)
+idle-waits : (x : Cluster) (l : LockId) → lockIn x l ≡ freshLock → (c : ClientId) (v : View) → asSeen v ≡ clientIn (lockIn x l) (c .0)
+    → (v .grants ≡ v .grants + awaitsF (clientIn (lockIn x l) (c .0))) × (v .given ≡ v .given + flag (noteOf (lockIn x l) c))
+unfolding waitsF freshLock
+idle-waits x l f c v p = (rw (f, clients-idle (c .0)) (omega arith), rw (f, clients-idle (c .0)) (omega arith))
 
 -- nothing is left to do
 ends-now : (m n : ℕ) (x : Cluster) (l : LockId) → nextCall l (lockIn x l) ≡ none → lockIn x l ≡ freshLock → Ends x l m (drainage n l x)
@@ -152,14 +206,18 @@ module _ (x : Cluster) (l : LockId) (h : Reached x) (a : Call) (q : lockOf a ≡
   abbrev y : Cluster
   y = perform a x .cluster
 
-  count-on : (m : ℕ) (d : Drainage) → Ends y l m d → (c : ClientId) (v : View) → v .phase ≡ statusOf (lockIn x l) c
-      → watch l c (a ∷ d .calls) x v .grants ≡ v .grants + waitsF (statusOf (lockIn x l) c)
+  count-on : (m : ℕ) (d : Drainage) → Ends y l m d → (c : ClientId) (v : View) → asSeen v ≡ clientIn (lockIn x l) (c .0)
+      → (watch l c (a ∷ d .calls) x v .grants ≡ v .grants + awaitsF (clientIn (lockIn x l) (c .0)))
+      × (watch l c (a ∷ d .calls) x v .given ≡ v .given + flag (noteOf (lockIn x l) c))
   unfolding watch Counted
   count-on m d ih c v p =
       let v′ : View = sees l c a x y v in
-      let p′ : v′ .phase ≡ statusOf (lockIn y l) c = rw t at (agrees-call a l c x v h p) in
+      let p′ : asSeen v′ ≡ clientIn (lockIn y l) (c .0) = rw t at (agrees-call a l c x v h p) in
       let e : pick (isAccepted (perform a x .answer)) v′ v ≡ v′ = rw t in
-      ap (λ (w : View). watch l c (d .calls) y w .grants) e ∙ omega (arith, ih .counted c v′ p′, cn c v p, ap waitsF p, ap waitsF p′)
+      let lost : ClientState → ℕ = λ x. flag (x .lost) in (
+        ap (λ (w : View). watch l c (d .calls) y w .grants) e ∙ omega (arith, ih .counted c v′ p′, cn c v p, ap awaitsF p, ap awaitsF p′),
+        ap (λ (w : View). watch l c (d .calls) y w .given) e ∙ omega (arith, ih .counted c v′ p′, cn c v p, ap lost p, ap lost p′),
+      )
 
   ends-after : (m n : ℕ) (d : Drainage) → m < n → Ends y l m d → Ends x l n (after-one a d)
   unfolding run
@@ -201,14 +259,15 @@ drain-is : (x : Cluster) (l : LockId) → wellFormed x ≡ true → l .0 < locks
 unfolding drain drainUnless drainEnded first
 drain-is x l w lb e = rw (w, lt-leb locks (l .0) lb, e)
 
--- the phases are the statuses, however given
-drains-by : (x : Cluster) (l : LockId) → l .0 < locks → Reached x → (phase : ClientId → Status) → ((c : ClientId) → statusOf (lockIn x l) c ≡ phase c)
-    → Drains x l phase
+-- the phases and what was lost are the statuses and the notes, however given
+drains-by : (x : Cluster) (l : LockId) → l .0 < locks → Reached x → (phase : ClientId → Status) (lost : ClientId → Bool)
+    → ((c : ClientId) → record { status = phase c; lost = lost c } ≡ clientIn (lockIn x l) (c .0)) → Drains x l phase lost
 unfolding waitsF
-drains-by x l lb h phase same =
+drains-by x l lb h phase lost same =
     let few : stepsLeft (lockIn x l) ≤ provedBound = steps-bound (lockIn x l) (h .invs l) in
     let e : Ends x l (stepsLeft (lockIn x l)) (drainage allowance l x) = ends allowance x l lb h (omega arith) in
     let d = drain-is x l (h .formed) lb (e .answer) in
+    let note : ClientState → ℕ = λ x. flag (x .lost) in
     record {
       answered = rw d;
       counted = rw d;
@@ -219,17 +278,25 @@ drains-by x l lb h phase same =
       quiescent = rw d (e .quiescent);
       fresh = rw d (e .state);
       others = λ j n. rw d (e .others j n);
-      granted = λ c m q. omega (arith, e .counted c (record { phase = phase c; grants = 0 }) (sym (same c)), ap waitsF (same c ∙ q));
+      granted = λ c m q u.
+          let counts = e .counted c (viewed (phase c) (lost c)) (same c) in
+          let one : awaitsF (record { status = phase c; lost = lost c }) ≡ 1 = rw (q, u) in
+          (omega (arith, counts, ap awaitsF (same c), one), omega (arith, counts, ap note (same c), ap flag u));
+      gave-up = λ c m q u.
+          let counts = e .counted c (viewed (phase c) (lost c)) (same c) in
+          let none : awaitsF (record { status = phase c; lost = lost c }) ≡ 0 = rw (q, u) in
+          (omega (arith, counts, ap awaitsF (same c), none), omega (arith, counts, ap note (same c), ap flag u));
     }
 
-pub drains-reached : (x : Cluster) (l : LockId) → l .0 < locks → Reached x → Drains x l (λ c. statusOf (lockIn x l) c)
-drains-reached x l lb h = drains-by x l lb h _ (λ c. refl)
+pub drains-reached : (x : Cluster) (l : LockId) → l .0 < locks → Reached x → Drains x l (λ c. statusOf (lockIn x l) c) (λ c. noteOf (lockIn x l) c)
+drains-reached x l lb h = drains-by x l lb h _ _ (λ c. refl)
 
 -- ---- demand 3, for every list of calls
 pub demand3 : (n : ℕ) (cs : List Call) → Demand3 n cs
 demand3 n cs =
     record {
       trace = trace-agrees n cs;
+      notes = notes-agree n cs;
       exclusion = exclusion-of-trace n cs;
-      drains = λ l lb. drains-by (after n cs) l lb (reached n cs) _ (trace-agrees n cs l);
+      drains = λ l lb. drains-by (after n cs) l lb (reached n cs) _ _ (as-seen n cs l);
     }

@@ -1,10 +1,10 @@
 -- At most one client holds an exclusive lock.
-use Rattle.theorems.specs.Names.{MachineId, Mode, Exclusive, Shared, Owner, Unowned, Owned, Agent, Address, ToDecider, ToMachine, Message, Free, Acquire}
-use Rattle.theorems.specs.Names.{Grant, Release, Packet, Holding, LockState, _≡_, refl, ap, Bool, true, false, not, List, [], _∷_, ℕ, zero, suc, _+_, _≤_}
-use Rattle.theorems.specs.Names.{arith, getD, eqb, ltb, leb-true, noAgent, packets, and-left, and-right, clients, machineOf}
+use Rattle.theorems.specs.Names.{MachineId, Mode, Exclusive, Shared, Owner, Unowned, Owned, Agent, Address, ToDecider, ToMachine, Message, Free}
+use Rattle.theorems.specs.Names.{Acquire, Grant, Release, Packet, Holding, LockState, _≡_, refl, ap, Bool, true, false, not, List, [], _∷_, ℕ, zero}
+use Rattle.theorems.specs.Names.{suc, _+_, _≤_, arith, getD, eqb, ltb, leb-true, noAgent, packets, and-left, and-right, clients, machineOf}
 use Rattle.theorems.specs.Tally.{flag, gate, tally, tally-any, tally-le-at, tally-none, tally-add}
-use Rattle.theorems.specs.Weights.{statusAt, slotAt, weight, sameMode, markM, listedS, listedP, agentS, heads, holdF, clash, ownedMode, ownedAt, few}
-use Rattle.theorems.specs.Weights.{misfitS, fitsAway, fitsFree, fits, misfitP}
+use Rattle.theorems.specs.Weights.{statusAt, slotAt, weight, sameMode, markM, listedS, listedP, agentS, heads, holdF, idleF, clash, ownedMode, ownedAt}
+use Rattle.theorems.specs.Weights.{few, misfitS, fitsAway, fitsFree, fits, misfitP}
 use Rattle.theorems.specs.Invariant.{Inv}
 use Rattle.theorems.specs.Facts.{fit, nobody, away-of, Home, home-of, owned-one}
 use Rattle.theorems.specs.Sent.{no-marked}
@@ -78,4 +78,8 @@ one-exclusive r i d e m n hd he =
     let few : tally (listedS d) (r .agents) + tally (listedS e) (r .agents) ≤ tally agentS (r .agents) =
     rw (← tally-add (listedS d) (listedS e) (r .agents)) (tally-le-at (λ s. listedS d s + listedS e s) agentS noAgent (r .agents)
     (λ j l. slot-lists k j d e (slotAt r j .present) (slotAt r j .agent) n (rw o at (i .homes j)))) in
-    omega (arith, none d, none e, few, rw hd at (i .holds d), rw he at (i .holds e), i .agent, owned-one (r .decider .owner))
+    omega (arith, none d, none e, few, listed-holder d Exclusive hd, listed-holder e m he, i .agent, owned-one (r .decider .owner))
+  where
+    -- who holds asks for nothing, and so is listed
+    listed-holder : (x : ℕ) (n : Mode) → statusAt r x ≡ Holding n → 1 ≤ weight (listedP x) (listedS x) r
+    listed-holder x n h = unfold holdF idleF in omega (arith, rw h at (i .presence x), rw h at (i .most x))

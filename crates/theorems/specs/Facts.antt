@@ -4,15 +4,16 @@ use Rattle.theorems.specs.Names.{Acquire, Grant, Release, Packet, Status
 use Rattle.theorems.specs.Names.{_&&_, not, and-false, false≢true, List, [], _∷_, ℕ, _+_, _*_, _≤_, _<_, arith, ℕ-discrete, length, getD, set}
 use Rattle.theorems.specs.Names.{length-set, List·getD-eq-default, getD-set-same, getD-set-other, eqb, ltb, eqb-true, eq-eqb, ne-eqb, ltb-true}
 use Rattle.theorems.specs.Names.{ltb-false, lt-ltb, leb-true, le-leb, someAgent, idle, noAgent, packets, changed, and-left, and-right, bool-cases}
-use Rattle.theorems.specs.Names.{machines, clients, wireCapacity, machineOf, ownedShared, true≢false, isShared, isFree, messageNames}
+use Rattle.theorems.specs.Names.{machines, clients, wireCapacity, machineOf, ownedShared, true≢false, isShared, isFree, messageNames, ClientState}
 use Rattle.theorems.specs.Tally.{flag, tally, tally-set, tally-at, tally-le, tally-none, tally-add, tally-length, sumTo, sum-swap, sum-le, sum-ext}
 use Rattle.theorems.specs.Tally.{sum-one}
 use Rattle.theorems.specs.Weights.{statusAt, slotAt, weight, sameMode, one, hit, hitW, askM, queuedS, waitingP, markM, listedS, listedP, owedM, owedP}
 use Rattle.theorems.specs.Weights.{releaseM, releaseP, agentS, agentP, incarnationS, incarnationP, markAll, markP, rejectedP, heads, vacantS, waitF}
 use Rattle.theorems.specs.Weights.{waitsF, holdF, idleF, ownedF, clash, farM, farF, ownedMode, ownedAt, few, fitsHome, misfitS, fitsAway, inRange, fits}
-use Rattle.theorems.specs.Weights.{fitsP, misfitP}
+use Rattle.theorems.specs.Weights.{fitsP, misfitP, noteAt, noteF}
 use Rattle.theorems.specs.Invariant.{Inv}
 use Rattle.theorems.specs.InvariantStep.{Split, told}
+pub use Rattle.theorems.specs.InvariantStep.{hits, owes-parts, owes-list, statuses}
 
 -- ---- tests: from a count of misfits to the test
 pub fit : (b : Bool) → flag (not b) ≡ 0 → b ≡ true
@@ -164,25 +165,59 @@ few-less Exclusive x y h e = le-leb y 1 (omega (arith, leb-true x 1 e))
 few-less Shared x y h e = refl
 
 -- ---- a client's status after a step, as a number
-pub status-move : {r : LockState} {c : ClientId} {old : Status} → Inv r → c .0 < clients → statusAt r (c .0) ≡ old → (st : Status) (F : Status → ℕ) (d : ℕ)
-    → F (told r c st d) + one d c * F old ≡ F (statusAt r d) + one d c * F st
+pub status-move : {r : LockState} {c : ClientId} {old : Status} → Inv r → c .0 < clients → statusAt r (c .0) ≡ old → (x : ClientState) (F : Status → ℕ) (d : ℕ)
+    → F (told r c x d .status) + one d c * F old ≡ F (statusAt r d) + one d c * F (x .status)
 unfolding one
-status-move {r} {c} i cl e st F d =
-    rw (← e) (set-at (λ x. F (x .status)) idle (r .clients) (c .0) d (record { status = st }) (λ q. omega (arith, i .all-clients)))
-
--- the modes agree after it, if the client's does
-pub modes-told : {r : LockState} (c : ClientId) (st : Status) → Inv r → c .0 < clients → clash (r .decider .owner) st ≡ 0
-    → (d : ℕ) → clash (r .decider .owner) (told r c st d) ≡ 0
-modes-told {r} c st i cl e d = omega (arith, i .modes d, rw e at (status-move i cl refl st (clash (r .decider .owner)) d))
+status-move {r} {c} i cl e x F d = rw (← e) (set-at (λ y. F (y .status)) idle (r .clients) (c .0) d x (λ q. omega (arith, i .all-clients)))
 
 -- ---- who waits is a client
 pub far-idle : (r : LockState) (d : ℕ) → Inv r → clients ≤ d → statusAt r d ≡ Idle
 far-idle r d i h = let l : length (r .clients) ≤ d = omega (arith, i .all-clients) in rw (statusAt, List·getD-eq-default (r .clients) idle l)
 
+-- no packet that fits is about anyone else
+far-one : (d : ℕ) (c : ClientId) → clients ≤ d → ltb (c .0) clients ≡ true → one d c ≡ 0
+unfolding one
+far-one d c h q = rw (ne-eqb (c .0) d (λ e. omega (arith, e, ltb-true (c .0) clients q)))
+
+far-owed : (d : ℕ) → clients ≤ d → (x : Bool) (m : Message) → inRange m ≡ true → owedM d x m ≡ 0
+unfolding owedM
+far-owed d h x (Acquire c n g) e = refl
+far-owed d h true (Grant c n) e = refl
+far-owed d h false (Grant c n) e = far-one d c h e
+far-owed d h x (Release c) e = far-one d c h e
+far-owed d h x Free e = refl
+
+owed-one : (d : ℕ) (x : Bool) (m : Message) → owedM d x m ≤ 1
+unfolding owedM one
+owed-one d x (Acquire c n g) = omega arith
+owed-one d true (Grant c n) = omega arith
+owed-one d false (Grant c n) = flag-le (eqb (c .0) d)
+owed-one d x (Release c) = flag-le (eqb (c .0) d)
+owed-one d x Free = omega arith
+
+far-fits : (o : Owner) (d : ℕ) → clients ≤ d → (p : Packet) → owedP d p ≤ misfitP o p
+unfolding misfitP
+far-fits o d h p =
+    bool-cases (fitsP o p)
+    (λ q. omega (arith, far-owed d h (p .carried .present) (p .message) (named-of _ _ _ _ _ (p .message) q)))
+    (λ q. rw q (omega (arith, owed-one d (p .carried .present) (p .message))))
+
+pub far-absent : (r : LockState) (d : ℕ) → Inv r → clients ≤ d
+    → weight (waitingP d Exclusive) (queuedS d Exclusive) r + weight (waitingP d Shared) (queuedS d Shared) r ≡ 0
+unfolding idleF
+far-absent r d i h =
+    omega (
+      arith,
+      rw (far-idle r d i h) at (i .presence d),
+      tally-le (owedP d) (misfitP (r .decider .owner)) (far-fits (r .decider .owner) d h) (packets (r .wire)),
+      i .fitting,
+    )
+
 pub waiter-below : (r : LockState) (d : ℕ) (m : Mode) → Inv r → 0 < weight (waitingP d m) (queuedS d m) r → d < clients
-unfolding waitF
-waiter-below r d m i h =
-    bool-cases (ltb d clients) (λ q. ltb-true d clients q) (λ q. absurd (omega (arith, rw (far-idle r d i (ltb-false d clients q)) at (i .waits d m))))
+waiter-below r d Exclusive i h =
+    bool-cases (ltb d clients) (λ q. ltb-true d clients q) (λ q. absurd (omega (arith, far-absent r d i (ltb-false d clients q))))
+waiter-below r d Shared i h =
+    bool-cases (ltb d clients) (λ q. ltb-true d clients q) (λ q. absurd (omega (arith, far-absent r d i (ltb-false d clients q))))
 
 pub hit-self : (c : ClientId) (n : Mode) → hit (c .0) n c n ≡ 1
 unfolding hit
@@ -235,11 +270,6 @@ namesM d m = askM d Exclusive m + askM d Shared m + markM d m + releaseM d m
 unfoldable pub freeM : Message → ℕ
 freeM m = flag (isFree m)
 
-pub hits : (d : ℕ) (c : ClientId) (n : Mode) → hit d Exclusive c n + hit d Shared c n ≡ one d c
-unfolding hit one
-hits d c Exclusive = omega arith
-hits d c Shared = omega arith
-
 pub names-are : (c : ClientId) (m : Message) → namesM (c .0) m ≡ flag (messageNames c m)
 unfolding askM markM releaseM one
 names-are c (Acquire d n false) = omega (arith, hits (c .0) d n)
@@ -285,24 +315,6 @@ free-carries : (o : Owner) (p : Packet) → freeM (p .message) ≤ misfitP o p +
 unfolding misfitP agentS
 free-carries o p = free-fits o (p .carried .present) (p .to) (p .rejected) (p .carried .agent) (p .message)
 
--- what is owed is a GRANT without agent or a RELEASE
-pub owes-parts : (d : ℕ) (p : Packet) → owedP d p ≤ askM d Exclusive (p .message) + askM d Shared (p .message) + releaseP d p
-owes-parts d p = go (p .carried .present) (p .message)
-  where
-    go : (x : Bool) (m : Message) → owedM d x m ≤ askM d Exclusive m + askM d Shared m + releaseM d m
-    go x (Acquire c n g) = unfold owedM in omega arith
-    go true (Grant c n) = unfold owedM in omega arith
-    go false (Grant c n) = unfold owedM askM in omega (arith, hits d c n)
-    go x (Release c) = unfold owedM releaseM in omega arith
-    go x Free = unfold owedM in omega arith
-
-pub statuses : (s : Status) → waitF Exclusive s + waitF Shared s + holdF s + idleF s ≡ 1
-unfolding waitF holdF idleF
-statuses Idle = refl
-statuses (Waiting Exclusive) = refl
-statuses (Waiting Shared) = refl
-statuses (Holding n) = refl
-
 pub waits-are : (s : Status) → waitF Exclusive s + waitF Shared s ≡ waitsF s
 unfolding waitF waitsF
 waits-are Idle = refl
@@ -314,16 +326,6 @@ pub waits-one : (m : Mode) (s : Status) → waitF m s ≤ 1
 waits-one Exclusive s = omega (arith, statuses s)
 waits-one Shared s = omega (arith, statuses s)
 
-pub owes-list : (d : ℕ) (qs : List Packet)
-    → tally (owedP d) qs ≤ tally (λ p. askM d Exclusive (p .message)) qs + tally (λ p. askM d Shared (p .message)) qs + tally (releaseP d) qs
-owes-list d qs =
-    omega (
-      arith,
-      tally-le (owedP d) _ (owes-parts d) qs,
-      tally-add (λ p. askM d Exclusive (p .message) + askM d Shared (p .message)) (releaseP d) qs,
-      tally-add (λ p. askM d Exclusive (p .message)) (λ p. askM d Shared (p .message)) qs,
-    )
-
 pub owned-one : (o : Owner) → ownedF o ≤ 1
 unfolding ownedF
 owned-one Unowned = omega arith
@@ -333,24 +335,34 @@ module _ (r : LockState) (i : Inv r) where
   abbrev ps : List Packet
   ps = packets (r .wire)
 
-  -- the all-machines counts of a client's packets
-  pub asks : (d : ℕ) (m : Mode) → tally (λ p. askM d m (p .message)) ps ≤ waitF m (statusAt r d)
+  -- what asks of a client's packets, in any mode
+  pub asked : (d : ℕ) → tally (λ p. askM d Exclusive (p .message)) ps + tally (λ p. askM d Shared (p .message)) ps
+      ≤ weight (waitingP d Exclusive) (queuedS d Exclusive) r + weight (waitingP d Shared) (queuedS d Shared) r
   unfolding weight
-  asks d m = omega (arith, i .waits d m, tally-add (λ p. askM d m (p .message)) (λ p. queuedS d m (p .carried)) ps)
+  asked d =
+      omega (
+        arith,
+        tally-add (λ p. askM d Exclusive (p .message)) (λ p. queuedS d Exclusive (p .carried)) ps,
+        tally-add (λ p. askM d Shared (p .message)) (λ p. queuedS d Shared (p .carried)) ps,
+      )
 
-  marks : (d : ℕ) → tally (λ p. markM d (p .message)) ps ≤ holdF (statusAt r d) + tally (owedP d) ps
-  unfolding weight
-  marks d = omega (arith, i .holds d, tally-add (λ p. markM d (p .message)) (λ p. listedS d (p .carried)) ps)
+  -- who is listed or marked is so once
+  pub lists-one : (d : ℕ) → weight (listedP d) (listedS d) r ≤ 1
+  lists-one d = omega (arith, i .presence d, i .rels d, owes-list d ps, asked d)
 
   pub marked-below : (d : ℕ) → tally (λ p. markM d (p .message)) ps ≤ 1
-  marked-below d = omega (arith, statuses (statusAt r d), asks d Exclusive, asks d Shared, marks d, owes-list d ps, i .rels d)
+  unfolding weight
+  marked-below d = omega (arith, lists-one d, tally-add (λ p. markM d (p .message)) (λ p. listedS d (p .carried)) ps)
 
-  pub named-below : (d : ℕ) → tally (λ p. namesM d (p .message)) ps ≤ 2
+  idle-one : (d : ℕ) → idleF (statusAt r d) ≤ 1
+  idle-one d = omega (arith, statuses (statusAt r d))
+
+  pub named-below : (d : ℕ) → tally (λ p. namesM d (p .message)) ps ≤ 3
   named-below d =
       let releases = tally-add (λ p. askM d Exclusive (p .message) + askM d Shared (p .message) + markM d (p .message)) (releaseP d) ps in
       let marked = tally-add (λ p. askM d Exclusive (p .message) + askM d Shared (p .message)) (λ p. markM d (p .message)) ps in
-      let asked = tally-add (λ p. askM d Exclusive (p .message)) (λ p. askM d Shared (p .message)) ps in
-      omega (arith, statuses (statusAt r d), asks d Exclusive, asks d Shared, marked-below d, i .rels d)
+      let both = tally-add (λ p. askM d Exclusive (p .message)) (λ p. askM d Shared (p .message)) ps in
+      omega (arith, asked d, i .most d, marked-below d, i .rels d, idle-one d)
 
   pub frees : tally (λ p. freeM (p .message)) ps ≤ 1
   unfolding weight
@@ -369,7 +381,7 @@ module _ (r : LockState) (i : Inv r) where
         tally-add (λ p. misfitP (r .decider .owner) p + freeM (p .message)) (λ p. sumTo clients (λ d. namesM d (p .message))) ps,
         tally-add (misfitP (r .decider .owner)) (λ p. freeM (p .message)) ps,
         sum-swap clients (λ d p. namesM d (p .message)) ps,
-        sum-le clients 2 (λ d. tally (λ p. namesM d (p .message)) ps) named-below,
+        sum-le clients 3 (λ d. tally (λ p. namesM d (p .message)) ps) named-below,
       )
 
 mark-in-range : (m : Message) → markAll m ≤ flag (not (inRange m)) + sumTo clients (λ d. markM d m)
@@ -498,9 +510,17 @@ pub one-self : (c : ClientId) → one (c .0) c ≡ 1
 unfolding one
 one-self c = rw (eq-eqb (c .0) (c .0) refl)
 
--- who is listed or marked is so once
-pub lists-one : (r : LockState) (i : Inv r) (d : ℕ) → weight (listedP d) (listedS d) r ≤ 1
-lists-one r i d = omega (arith, i .holds d, statuses (statusAt r d), asks r i d Exclusive, asks r i d Shared, owes-list d (packets (r .wire)), i .rels d)
+pub one-none : (d : ℕ) (c : ClientId) → (d ≡ c .0 → ⊥) → one d c ≡ 0
+unfolding one
+one-none d c n = rw (ne-eqb (c .0) d (λ e. n (sym e)))
+
+pub one-some : (d : ℕ) (c : ClientId) → d ≡ c .0 → one d c ≡ 1
+unfolding one
+one-some d c e = rw (eq-eqb (c .0) d (sym e))
+
+pub hit-one : (d : ℕ) (m : Mode) (c : ClientId) (n : Mode) → hit d m c n ≤ one d c
+hit-one d Exclusive c n = omega (arith, hits d c n)
+hit-one d Shared c n = omega (arith, hits d c n)
 
 -- who asks is neither listed nor marked
 pub asker-unlisted : {r : LockState} {rest : List Packet} {c : ClientId} {n : Mode} (p : Packet) → Inv r → p .message ≡ Acquire c n false
@@ -511,9 +531,7 @@ asker-unlisted {r} {rest} {c} {n} p i e sp =
     let shared = rw e at (sp .parts (λ q. askM (c .0) Shared (q .message))) in
     let owed = rw e at (sp .parts (owedP (c .0))) in
     let released = rw e at (sp .parts (releaseP (c .0))) in
-    let counts = asks r i (c .0) in
-    let status = statuses (statusAt r (c .0)) in
-    omega (arith, i .holds (c .0), counts Exclusive, counts Shared, hits (c .0) c n, one-self c, owes-list (c .0) rest, i .rels (c .0))
+    omega (arith, i .presence (c .0), asked r i (c .0), hits (c .0) c n, one-self c, owes-list (c .0) rest, i .rels (c .0))
 
 -- a client that no agent lists joins the holders of the agent a, whose incarnation is n then
 abbrev pub joins : Agent → ClientId → ℕ → AgentSlot
@@ -553,12 +571,60 @@ drop-last true true false d e = e
 drop-last true false c d e = e
 drop-last false b c d e = e
 
--- who has a GRANT on the wire waits, in its mode
-pub grant-waits : {r : LockState} {rest : List Packet} {c : ClientId} {n : Mode} (p : Packet) → Inv r → p .message ≡ Grant c n → Split r (p ∷ []) rest
-    → statusAt r (c .0) ≡ Waiting n
+-- who has a GRANT on the wire waits, in its mode, and has no note; or it is idle, since it gave up
+pub data Awaits (n : Mode) : Status → Type 0 where
+  gave-up : Awaits n Idle
+  awaits : Awaits n (Waiting n)
+
+awaits-by : (n : Mode) (s : Status) (x y : ℕ) → x + y + holdF s ≤ 1 → waitF Exclusive s ≤ x → waitF Shared s ≤ y
+    → 1 ≤ (waitF n (Waiting Exclusive)) * x + (waitF n (Waiting Shared)) * y → Awaits n s
+unfolding waitF holdF
+awaits-by n Idle x y m e f g = gave-up
+awaits-by Exclusive (Waiting Exclusive) x y m e f g = awaits
+awaits-by Exclusive (Waiting Shared) x y m e f g = absurd (omega arith)
+awaits-by Shared (Waiting Exclusive) x y m e f g = absurd (omega arith)
+awaits-by Shared (Waiting Shared) x y m e f g = awaits
+awaits-by Exclusive (Holding n) x y m e f g = absurd (omega arith)
+awaits-by Shared (Holding n) x y m e f g = absurd (omega arith)
+
+-- what names an idle client names one that is idle
+pub hit-idle : (r : LockState) (i : Inv r) (c : ClientId) (n : Mode) → statusAt r (c .0) ≡ Idle → (d : ℕ) (m : Mode) → hit d m c n ≤ idleF (statusAt r d)
+unfolding hit idleF
+hit-idle r i c n e d m =
+    bool-cases (eqb (c .0) d)
+    (λ q. let w : statusAt r d ≡ Idle = rw (← eqb-true (c .0) d q) e in rw (q, w) (omega (arith, flag-le (sameMode n m))))
+    (λ q. rw q (omega arith))
+
+pub grant-asks : {r : LockState} {rest : List Packet} {c : ClientId} {n : Mode} (p : Packet) → Inv r → p .message ≡ Grant c n → Split r (p ∷ []) rest
+    → 1 ≤ weight (waitingP (c .0) n) (queuedS (c .0) n) r
 unfolding weight tally askM
-grant-waits {r} {rest} {c} {n} p i e sp =
-    waiting-is n _ (omega (arith, i .waits (c .0) n, rw e at (sp .parts (waitingP (c .0) n)), hit-self c n, waits-one n (statusAt r (c .0))))
+grant-asks {r} {rest} {c} {n} p i e sp = omega (arith, rw e at (sp .parts (waitingP (c .0) n)), hit-self c n)
+
+pub grant-unnoted : {r : LockState} {rest : List Packet} {c : ClientId} {n : Mode} (p : Packet) → Inv r → p .message ≡ Grant c n → Split r (p ∷ []) rest
+    → noteAt r (c .0) ≡ false
+grant-unnoted {r} {rest} {c} {n = Exclusive} p i e sp = flag-none _ (omega (arith, i .most (c .0), grant-asks p i e sp))
+grant-unnoted {r} {rest} {c} {n = Shared} p i e sp = flag-none _ (omega (arith, i .most (c .0), grant-asks p i e sp))
+
+pub grant-waits : {r : LockState} {rest : List Packet} {c : ClientId} {n : Mode} (p : Packet) → Inv r → p .message ≡ Grant c n → Split r (p ∷ []) rest
+    → Awaits n (statusAt r (c .0))
+unfolding waitF noteF
+grant-waits {r} {rest} {c} {n = Exclusive} p i e sp =
+    let no-note = ap flag (grant-unnoted p i e sp) in
+    awaits-by Exclusive _ (weight (waitingP (c .0) Exclusive) (queuedS (c .0) Exclusive) r) (weight (waitingP (c .0) Shared) (queuedS (c .0) Shared) r)
+    (omega (arith, i .most (c .0))) (omega (arith, i .asks (c .0) Exclusive)) (omega (arith, i .asks (c .0) Shared, no-note))
+    (omega (arith, grant-asks p i e sp))
+grant-waits {r} {rest} {c} {n = Shared} p i e sp =
+    let no-note = ap flag (grant-unnoted p i e sp) in
+    awaits-by Shared _ (weight (waitingP (c .0) Exclusive) (queuedS (c .0) Exclusive) r) (weight (waitingP (c .0) Shared) (queuedS (c .0) Shared) r)
+    (omega (arith, i .most (c .0))) (omega (arith, i .asks (c .0) Exclusive)) (omega (arith, i .asks (c .0) Shared, no-note))
+    (omega (arith, grant-asks p i e sp))
+
+-- at a lock that is not shared every mode is exclusive
+pub owner-exclusive : (o : Owner) (n : Mode) → ownedMode o n ≡ true → ownedShared o ≡ false → n ≡ Exclusive
+owner-exclusive o Exclusive e f = refl
+owner-exclusive Unowned Shared e f = absurd (false≢true e)
+owner-exclusive (Owned Exclusive k) Shared e f = absurd (false≢true e)
+owner-exclusive (Owned Shared k) Shared e f = absurd (true≢false f)
 
 -- a lock whose agent is not shared is not
 pub unshared : (o : Owner) (n : Mode) → isShared n ≡ false → ownedMode o n ≡ true → ownedShared o ≡ false

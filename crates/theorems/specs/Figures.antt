@@ -8,16 +8,17 @@ use Rattle.model.specs.Lists.{count, padded, removed}
 use Rattle.theorems.specs.Names.{Agent, LockState, Call, mayJoin, mayShare}
 use Rattle.model.specs.States.{tasks, clients, agentOn, queueOf, waiters, noAgent, blankPacket, wireOf, packets, freshLock, lockIn}
 use Rattle.model.specs.WellFormed.{shaped, isBlankWaiter, distinct, queueFormed, agentFormed, isBlankAgent, slotFormed, messageFormed, packetFormed}
-use Rattle.model.specs.WellFormed.{isBlankPacket, wireFormed, lockFormed, wellFormed}
+use Rattle.model.specs.WellFormed.{isBlankPacket, wireFormed, clientFormed, lockFormed, wellFormed}
 use Rattle.model.specs.Changes.{finish}
-use Rattle.model.specs.Asking.{clientAsks, clientAcquires, handOver, staysIf, clientReleases}
-use Rattle.model.specs.AtDecider.{toOwner, decidesAcquire, decidesFree, decidesGrant, decides, atDecider}
+use Rattle.model.specs.Asking.{clientAsks, clientAcquires, handOver, staysIf, clientReleases, clientGivesUp}
+use Rattle.model.specs.AtDecider.{toOwner, decidesAcquire, decidesRelease, decidesFree, decidesGrant, decides, atDecider}
 use Rattle.model.specs.AtMachine.{admitted, staying, joined, installs, grantArrives, rejectedGrantArrives, marked, unmarked, acquireArrives, releaseArrives}
 use Rattle.model.specs.AtMachine.{freeArrives, arrives, atMachine}
 use Rattle.model.specs.Refusals.{first}
 use Rattle.model.specs.Calls.{delivers, acquireStep, releaseStep, takes, deliverStep, settled, unless, acquire, release, deliver, perform, run, packetAt}
+use Rattle.model.specs.Calls.{giveUp, giveUpStep}
 use Rattle.model.specs.Counts.{agentsIn, marksIn, uncounted}
-use Rattle.theorems.specs.Scenarios.{machine, on, acquires0, releases0, delivers0, with0, d9-start, d12-queued, passes}
+use Rattle.theorems.specs.Scenarios.{machine, on, acquires0, releases0, delivers0, givesUp0, with0, d9-start, d12-queued, passes}
 
 -- where the agent is
 pub data Where : Type 0 where
@@ -61,12 +62,20 @@ abbrev visits : ℕ → List Call
 visits zero = []
 visits (suc n) = visits n ++ visit n
 
+-- the same where each gives up
+abbrev call-off : ℕ → List Call
+call-off c = acquires0 (c / tasks) (c % tasks) 3 ∷ delivers0 (1 + 3 * c) ∷ givesUp0 (c / tasks) (c % tasks) ∷ []
+
+abbrev calls-off : ℕ → List Call
+calls-off zero = []
+calls-off (suc n) = calls-off n ++ call-off n
+
 -- 0/1 and 0/2 wait, shared, for the exclusive 0/0: 0/1 gets the agent, and the agent grants 0/2
 abbrev to-grant : List Call
 to-grant = acquires0 0 0 2 ∷ delivers0 0 ∷ delivers0 0 ∷ acquires0 0 1 3 ∷ acquires0 0 2 3 ∷ releases0 0 0 ∷ delivers0 0 ∷ delivers0 0 ∷ []
 
 pub data Name : Type 0 where
-  D1 D2 D3 D3-rejected D5 D9 D12 D13 agent-grants : Name
+  D1 D2 D3 D3-rejected D5 D9 D12 D13 forty-nine agent-grants : Name
 
 abbrev pub screens : Name → Screen
 screens D1 = shows freshLock to-D1 (in-packet 0) (1 ∷ 1 ∷ 0 ∷ 0 ∷ [])
@@ -78,15 +87,18 @@ screens D5 = shows freshLock (to-D3-rejected ++ (delivers0 2 ∷ delivers0 1 ∷
 screens D9 = shows d9-start (acquires0 1 0 3 ∷ delivers0 0 ∷ []) (on-machine 0) (2 ∷ 1 ∷ 1 ∷ 1 ∷ [])
 -- a gets the agent, and no GRANT is sent to c, who waits behind b
 screens D12 = shows d12-queued (passes 0) (on-machine 1) (0 ∷ 1 ∷ 0 ∷ 0 ∷ [])
--- the wire that fills all places
+-- thirty-three packets; and the wire that fills all places: each has its GRANT, its mark and, since it gave up, a RELEASE
 screens D13 = shows freshLock (to-D1 ++ (delivers0 0 ∷ releases0 0 0 ∷ visits clients)) (in-packet 0) (33 ∷ 1 ∷ 16 ∷ 16 ∷ [])
+screens forty-nine = shows freshLock (to-D1 ++ (delivers0 0 ∷ releases0 0 0 ∷ calls-off clients)) (in-packet 0) (49 ∷ 1 ∷ 16 ∷ 16 ∷ [])
 -- the decider sends on the GRANT of the agent, and does not count it
 screens agent-grants = shows freshLock (to-grant ++ (delivers0 0 ∷ [])) (on-machine 0) (1 ∷ 1 ∷ 0 ∷ 0 ∷ [])
 
 pub figures-hold : (n : Name) → Right (screens n)
-unfolding run perform acquire release deliver unless settled first acquireStep releaseStep deliverStep takes finish delivers
+unfolding giveUp giveUpStep clientGivesUp
+    run perform acquire release deliver unless settled first acquireStep releaseStep deliverStep takes finish delivers
+    clientFormed
     wellFormed lockFormed wireFormed packetFormed messageFormed slotFormed agentFormed isBlankAgent isBlankPacket isBlankWaiter queueFormed distinct shaped
-    atDecider decides decidesAcquire decidesFree decidesGrant toOwner atMachine arrives acquireArrives releaseArrives freeArrives marked unmarked
+    atDecider decides decidesAcquire decidesRelease decidesFree decidesGrant toOwner atMachine arrives acquireArrives releaseArrives freeArrives marked unmarked
     grantArrives rejectedGrantArrives mayShare mayJoin installs admitted staying joined clientAcquires clientAsks clientReleases staysIf handOver
     count padded removed queueOf waiters noAgent blankPacket wireOf packets freshLock
 figures-hold D1 = refl
@@ -97,4 +109,5 @@ figures-hold D5 = refl
 figures-hold D9 = refl
 figures-hold D12 = refl
 figures-hold D13 = refl
+figures-hold forty-nine = refl
 figures-hold agent-grants = refl

@@ -3,13 +3,12 @@ use Rattle.model.specs.AtMachine.{mayLeave}
 use Rattle.laws.specs.Tests.{pick-by}
 use Rattle.laws.specs.Formed.{parts, packet-at, lock-formed}
 use Rattle.laws.specs.CallSteps.{Allowed, may-deliver, perform-here, not-accepted, Passes, passes}
-use Rattle.theorems.specs.Names.{LockId, MachineId, ClientId, Mode, Exclusive, Shared, Waiter, Agent, ToMachine, Grant, Packet, Holding, LockState}
-use Rattle.theorems.specs.Names.{Cluster, DeliverCall, Accepted, Stepped, _≡_, refl, ap, Bool, true, false}
-use Rattle.theorems.specs.Names.{_&&_, not, true≢false, List, [], _∷_, _++_, map, ℕ, _+_, _<_, arith, length, getD-set-same}
-use Rattle.theorems.specs.Names.{leb, ltb-true, all, removed, isShared, waiters, someAgent, noAgent, agentOn, carrying, packets, lockIn}
-use Rattle.theorems.specs.Names.{siteOf, withSlot, withStatus, apply, finish, grantOf, admitted, staying, installed, installs, grantArrives, arrives}
-use Rattle.theorems.specs.Names.{atMachine, packetAt, delivers, takes, deliverStep, deliver, perform, and-right, both, bool-cases}
-use Rattle.theorems.specs.Names.{waiters-of, packets-of, none-leaves, machines, wireCapacity}
+use Rattle.theorems.specs.Names.{grantedIn, statusOf, LockId, MachineId, ClientId, Mode, Exclusive, Shared, Waiter, Agent, ToMachine, Grant, Packet}
+use Rattle.theorems.specs.Names.{LockState, Cluster, DeliverCall, Accepted, Stepped, _≡_, refl, ap, Bool, true, false, _&&_, not, true≢false, List, []}
+use Rattle.theorems.specs.Names.{_∷_, _++_, map, ℕ, _+_, _<_, arith, length, getD-set-same, leb, ltb-true, all, removed, isShared, waiters, someAgent}
+use Rattle.theorems.specs.Names.{noAgent, agentOn, carrying, packets, lockIn, siteOf, withSlot, withStatus, apply, finish, grantOf, admitted, staying}
+use Rattle.theorems.specs.Names.{installed, installs, grantArrives, arrives, atMachine, packetAt, delivers, takes, deliverStep, deliver, perform}
+use Rattle.theorems.specs.Names.{and-right, both, bool-cases, waiters-of, packets-of, none-leaves, machines, wireCapacity}
 use lib.ListN.{take}
 use Rattle.theorems.specs.Statements.{FirstCome, FirstServed}
 
@@ -50,7 +49,7 @@ module _ (pref : ℕ) (s : LockState) (i : ℕ) (k : MachineId) (c : ClientId) (
   sent = map grantOf (admitted m line)
 
   abbrev then : LockState
-  then = apply k c (withSlot (withStatus (siteOf pref s k c) (Holding m)) (someAgent (installed m c a))) sent rest s
+  then = apply k c (withSlot (withStatus (siteOf pref s k c) (grantedIn m (statusOf s c))) (someAgent (installed m c a))) sent rest s
 
   installed-so : k .0 < length (s .agents) → FirstCome s then i k m a
   installed-so h =

@@ -4,21 +4,22 @@ use Rattle.model.specs.Refusals.{_when_, first}
 use Rattle.laws.specs.Lists.{all-append}
 use Rattle.laws.specs.Tests.{pick-by}
 use Rattle.laws.specs.CallSteps.{finish-tells, told-none, perform-here, not-accepted, passes}
-use Rattle.theorems.specs.Names.{LockId, MachineId, ClientId, Mode, Agent, ToDecider, ToMachine, Message, Free, Acquire, Grant, Release, Packet}
-use Rattle.theorems.specs.Names.{Site, LockState, Cluster, Call, AcquireCall, ReleaseCall, DeliverCall, Refusal, Answer, Accepted, Refused, Handling}
-use Rattle.theorems.specs.Names.{None, NoAgent, NotHolder, Taken, Stepped, Outcome, _≡_, refl, sym, ap, Bool, true, false, not, List, [], _∷_, _++_}
-use Rattle.theorems.specs.Names.{ℕ, _+_, length, leb, set-getD, pick, all, removed, wireCapacity, agentOn, noAgent, idle, packets, packets-of, lockIn}
-use Rattle.theorems.specs.Names.{siteOf, Verdict, cannot-place, does, finish, sendsBack, leaves, handOver, staysIf, marked, unmarked}
-use Rattle.theorems.specs.Names.{acquireArrives, releaseArrives, arrives, atMachine, handles, packetAt, lists, delivers, handledAt, acquireStep}
-use Rattle.theorems.specs.Names.{releaseStep, takes, deliverStep, settled, unless, acquire, release, deliver, perform, handlingsOf, latest, lastTold}
-use Rattle.theorems.specs.Names.{machineAt, clientNamed, mayJoin, noRoom, anyHolder, without, waiters, Waiter, isShared, _&&_, false≢true}
-use Rattle.theorems.specs.Names.{Drained, wellFormed, locks, Malformed, LockRange}
+use Rattle.theorems.specs.Names.{LockId, MachineId, ClientId, Mode, Agent, ToDecider, ToMachine, Message, Free, Acquire, Grant, Release, Packet, Site}
+use Rattle.theorems.specs.Names.{LockState, Cluster, Call, AcquireCall, ReleaseCall, DeliverCall, Refusal, Answer, Accepted, Refused, Handling, None}
+use Rattle.theorems.specs.Names.{NoAgent, NotHolder, Taken, Stepped, Outcome, _≡_, refl, sym, ap, Bool, true, false, not, List, [], _∷_, _++_, ℕ, _+_}
+use Rattle.theorems.specs.Names.{length, leb, set-getD, pick, all, removed, wireCapacity, agentOn, noAgent, idle, packets, packets-of, lockIn, siteOf}
+use Rattle.theorems.specs.Names.{Verdict, cannot-place, does, finish, sendsBack, leaves, handOver, staysIf, marked, unmarked, acquireArrives}
+use Rattle.theorems.specs.Names.{releaseArrives, arrives, atMachine, handles, packetAt, lists, delivers, handledAt, acquireStep, releaseStep, takes}
+use Rattle.theorems.specs.Names.{deliverStep, settled, unless, acquire, release, deliver, perform, handlingsOf, latest, lastTold, machineAt}
+use Rattle.theorems.specs.Names.{clientNamed, mayJoin, noRoom, anyHolder, without, waiters, Waiter, isShared, _&&_, false≢true, Drained, wellFormed}
+use Rattle.theorems.specs.Names.{locks, Malformed, LockRange, LoseCall, GiveUpCall, lose, giveUp, giveUpStep, loseStep, drops, queues, unqueuing}
+use Rattle.theorems.specs.Names.{withSlot, someAgent, _<_, ltb, ltb-true, ltb-false, List·getD-eq-default, getD-set-same, waiters-of, bool-cases, _||_}
 use Rattle.model.specs.Changes.{toldBy}
 use mathlib.Core.List.{append-nil, append-assoc}
 use lib.Seq.{append-snoc}
 use Rattle.theorems.specs.Listings.{lists-all}
-use Rattle.theorems.specs.Statements.{isRequest, WentBack, Stayed, Handled, no-agent, not-holder, acquire-taken, release-taken, no-request, isNone, Last}
-use Rattle.theorems.specs.Statements.{none-told, last-told, TellsWhy}
+use Rattle.theorems.specs.Statements.{isRequest, WentBack, Stayed, Handled, no-agent, not-holder, acquire-taken, release-taken, no-request, isNone}
+use Rattle.theorems.specs.Statements.{Last, none-told, last-told, TellsWhy, Unqueued, release-unqueued}
 
 -- ---- What a rule's verdict leads to, where its step is accepted: the packet goes back, or no request is sent.
 abbrev NoRequests : Verdict → Type 0
@@ -73,13 +74,27 @@ module _ (pref : ℕ) (s : LockState) (i : ℕ) (k : MachineId) (c : ClientId) w
   acquired m g false h e = no-agent refl h (went-back e)
   acquired m g true h e = acquire-taken h (stayed _ (takes-acquire _ m g) e)
 
-  released : (b d : Bool) → agentOn s k .present ≡ b → lists (v .slot) c ≡ d
-      → finish k c (pick d (leaves v (v .slot .agent) c) (sendsBack v p)) rest s .answer ≡ Accepted
-      → Handled s (finish k c (pick d (leaves v (v .slot .agent) c) (sendsBack v p)) rest s .state) i k (Release c) (pick b (pick d Taken NotHolder) NoAgent)
-  released true true h j e = release-taken j (stayed _ (takes-release (v .slot .agent)) e)
-  released true false h j e = not-holder h j (went-back e)
-  released false true h j e = absurd (false≢true (rw h at j))
-  released false false h j e = no-agent refl h (went-back e)
+  abbrev unqueues : Verdict
+  unqueues = does (withSlot v (someAgent (unqueuing (v .slot .agent) c))) []
+
+  unqueued : finish k c unqueues rest s .answer ≡ Accepted → Unqueued s (finish k c unqueues rest s .state) i k c
+  unfolding finish
+  unqueued e =
+      pick-by (λ (t : Stepped). t .answer ≡ Accepted → Unqueued s (t .state) i k c) (leb (length rest + 0) wireCapacity)
+      (λ q z. rw (set-getD (s .clients) (c .0) idle, append-nil)) (λ q z. absurd (not-accepted z)) e
+
+  -- d: the agent lists the client; q: it queues it
+  abbrev hands : Bool → Bool → Verdict
+  hands d q = pick d (leaves v (v .slot .agent) c) (pick q unqueues (sendsBack v p))
+
+  released : (b d q : Bool) → agentOn s k .present ≡ b → lists (v .slot) c ≡ d → queues (v .slot) c ≡ q → finish k c (hands d q) rest s .answer ≡ Accepted
+      → Handled s (finish k c (hands d q) rest s .state) i k (Release c) (pick b (pick (d || q) Taken NotHolder) NoAgent)
+  released true true q h j u e = release-taken j (stayed _ (takes-release (v .slot .agent)) e)
+  released true false true h j u e = release-unqueued j u (unqueued e)
+  released true false false h j u e = not-holder h j u (went-back e)
+  released false true q h j u e = absurd (false≢true (rw h at j))
+  released false false true h j u e = absurd (false≢true (rw h at u))
+  released false false false h j u e = no-agent refl h (went-back e)
 
 -- ---- of a delivery to a machine, by its packet's message
 delivered : (pref : ℕ) (s : LockState) (i : ℕ) (k : MachineId) → packetAt s i .to ≡ ToMachine k → deliverStep pref s i .answer ≡ Accepted
@@ -92,7 +107,7 @@ delivered pref s i k t e = rw t (by-answer _ (rw t at e) (go (packetAt s i .mess
 
     go : (m : Message) → step m .answer ≡ Accepted → Handled s (step m .state) i k m (handles m (agentOn s k))
     go (Acquire c m g) e = acquired pref s i k c m g (agentOn s k .present) refl e
-    go (Release c) e = released pref s i k c (agentOn s k .present) (lists (agentOn s k) c) refl refl e
+    go (Release c) e = released pref s i k c (agentOn s k .present) (lists (agentOn s k) c) (queues (agentOn s k) c) refl refl refl e
     go (Grant c m) e = no-request refl
     go Free e = no-request refl
 
@@ -127,10 +142,12 @@ module _ (x : Cluster) (l : LockId) (t : Stepped) where
       go (Refused q) e = refl
 
 refused-call : (c : Call) (x : Cluster) (r : Refusal) → perform c x .answer ≡ Refused r → perform c x .handling ≡ None
-unfolding perform acquire release deliver
+unfolding perform acquire release deliver lose giveUp
 refused-call (AcquireCall l k t m) x r e = unless-refused x l _ _ r e
 refused-call (ReleaseCall l k t) x r e = unless-refused x l _ _ r e
 refused-call (DeliverCall l i) x r e = unless-refused x l _ _ r e
+refused-call (LoseCall l i) x r e = unless-refused x l _ _ r e
+refused-call (GiveUpCall l k t) x r e = unless-refused x l _ _ r e
 
 -- ---- the last of a list
 next-told : {hs : List Handling} {h : Handling} (g : Handling) → Last hs h → Last (hs ++ g ∷ []) (latest h g)
@@ -175,7 +192,7 @@ module _ (x : Cluster) (l : LockId) where
 
 -- ---- of each call
 pub tells-why : (x : Cluster) → TellsWhy x
-unfolding perform acquire release deliver acquireStep releaseStep settled
+unfolding perform acquire release deliver lose giveUp acquireStep releaseStep giveUpStep loseStep drops settled
 tells-why x =
     record {
       at-machine = λ l i k t e.
@@ -185,6 +202,8 @@ tells-why x =
       at-decider = λ l i t. unless-tells x l _ _ (decider-tells (x .preference) (lockIn x l) i t);
       acquires = λ l k t m. unless-tells x l _ _ (finish-tells _ _ _ _ _);
       releases = λ l k t. unless-tells x l _ _ (finish-tells _ _ _ _ _);
+      losses = λ l i. unless-tells x l _ _ (finish-tells _ _ _ _ _);
+      givings-up = λ l k t. unless-tells x l _ _ (finish-tells _ _ _ _ _);
       refused = λ c r e. refused-call c x r e;
       drains = drain-tells x;
       drain-refused = drain-stops x;

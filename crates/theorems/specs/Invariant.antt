@@ -1,17 +1,26 @@
 -- The invariant of one lock's state.
-use Rattle.theorems.specs.Names.{_≡_, ℕ, _+_, _≤_, _%_, length, Mode, LockState, packets, machines, clients}
-use Rattle.theorems.specs.Tally.{tally}
+use Rattle.theorems.specs.Names.{_≡_, ℕ, _+_, _≤_, _%_, length, Mode, Exclusive, Shared, LockState, packets, machines, clients}
+use Rattle.theorems.specs.Tally.{flag, tally}
 use Rattle.theorems.specs.Weights.{statusAt, slotAt, weight, waitingP, queuedS, listedP, listedS, owedP, releaseP, agentP, agentS, incarnationP}
-use Rattle.theorems.specs.Weights.{incarnationS, markP, rejectedP, vacantS, waitF, holdF, idleF, ownedF, clash, farF, farP, misfitP, misfitS}
-use Rattle.theorems.specs.Weights.{waitedF}
+use Rattle.theorems.specs.Weights.{incarnationS, markP, rejectedP, vacantS, waitF, holdF, idleF, ownedF, noteAt, noteF, sharedF, clash, farF, farP}
+use Rattle.theorems.specs.Weights.{misfitP, misfitS, waitedF}
 
 pub record Inv (r : LockState) : Type 0 where
   pub all-machines : length (r .agents) ≡ machines
   pub all-clients : length (r .clients) ≡ clients
-  -- a client that waits in a mode has one unmarked ACQUIRE, one GRANT or one place in a queue; any other has none
-  pub waits : (d : ℕ) (m : Mode) → weight (waitingP d m) (queuedS d m) r ≡ waitF m (statusAt r d)
-  -- it is listed, or to be listed by a marked ACQUIRE, as often as it holds, or is owed a GRANT, or has a RELEASE under way
-  pub holds : (d : ℕ) → weight (listedP d) (listedS d) r ≡ holdF (statusAt r d) + tally (owedP d) (packets (r .wire))
+  -- a client that waits in a mode has an unmarked ACQUIRE, a GRANT or a place in a queue for it, or the note that its GRANT was lost
+  pub asks : (d : ℕ) (m : Mode) → waitF m (statusAt r d) ≤ weight (waitingP d m) (queuedS d m) r + noteF m (noteAt r d)
+  -- nobody has two of these, and who holds has none; who is idle may have one, from before it gave up
+  pub most : (d : ℕ) → weight (waitingP d Exclusive) (queuedS d Exclusive) r + weight (waitingP d Shared) (queuedS d Shared) r + flag (noteAt r d)
+      + holdF (statusAt r d) ≤ 1
+  pub noted : (d : ℕ) → flag (noteAt r d) ≤ waitF Shared (statusAt r d)
+  -- It is present once: it asks, or is listed, or is to be listed by a marked ACQUIRE. Beside that it may be owed a GRANT. Who is idle is present as long as a
+  -- RELEASE of it is under way.
+  pub presence : (d : ℕ) → weight (waitingP d Exclusive) (queuedS d Exclusive) r + weight (waitingP d Shared) (queuedS d Shared) r
+      + weight (listedP d) (listedS d) r + idleF (statusAt r d) ≡ 1 + tally (owedP d) (packets (r .wire))
+  -- at a lock that is not shared only the idle are owed a GRANT, and nobody has lost one
+  pub owed : (d : ℕ) → tally (owedP d) (packets (r .wire)) + flag (noteAt r d)
+      ≤ tally (releaseP d) (packets (r .wire)) + idleF (statusAt r d) + sharedF (r .decider .owner)
   -- at most one RELEASE, and of an idle client
   pub rels : (d : ℕ) → tally (releaseP d) (packets (r .wire)) ≤ idleF (statusAt r d)
   -- an owned lock has one agent, somewhere, and a free one has none

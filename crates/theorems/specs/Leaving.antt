@@ -1,28 +1,30 @@
 -- A holder leaves the agent's list, by its own release or by a RELEASE that is delivered; from an empty list the agent leaves too.
-use Rattle.theorems.specs.Names.{MachineId, ClientId, Mode, Waiter, Agent, AgentSlot, Free, Grant, Packet, Status, LockState, _≡_, refl, _∙_, Bool, true}
-use Rattle.theorems.specs.Names.{false, true≢false, false≢true, List, [], _∷_, ℕ, _+_, _≤_, _<_, arith, length, getD, length-set, ne-eqb, lt-ltb, any}
+use Rattle.theorems.specs.Names.{MachineId, ClientId, Mode, Waiter, Agent, AgentSlot, Free, Grant, Packet, LockState, _≡_, refl, _∙_, Bool, true, false}
+use Rattle.theorems.specs.Names.{true≢false, false≢true, List, [], _∷_, ℕ, _+_, _≤_, _<_, arith, length, getD, length-set, ne-eqb, lt-ltb, any}
 use Rattle.theorems.specs.Names.{someAgent, listed, queueOf, waiters, noAgent, Site, withSlot, changed, anyHolder, without, departing, lists, handOver}
-use Rattle.theorems.specs.Names.{staysIf, leaves, waiters-of, machines, clients, siteOf, withStatus}
-use Rattle.theorems.specs.Tally.{flag, tally, tally-set}
-use Rattle.theorems.specs.Weights.{statusAt, slotAt, one, hit, askM, queuedS, waitingP, markM, listedS, listedP, owedM, owedP, releaseM, releaseP}
-use Rattle.theorems.specs.Weights.{agentS, agentP, incarnationS, incarnationP, markAll, markP, rejectedP, heads, vacantS, waitF, holdF, idleF, clash}
+use Rattle.theorems.specs.Names.{staysIf, leaves, waiters-of, machines, clients, siteOf, withStatus, withNote, ClientState, ownedShared}
+use Rattle.theorems.specs.Weights.{noteAt, statusAt, slotAt, one, hit, askM, queuedS, waitingP, markM, listedS, listedP, owedM, owedP, releaseM}
+use Rattle.theorems.specs.Weights.{releaseP, agentS, agentP, incarnationS, incarnationP, markAll, markP, rejectedP, heads, vacantS, waitF, holdF, idleF}
 use Rattle.theorems.specs.Weights.{farP, few, misfitS, fitsAway, fitsFree, fits, misfitP}
+use Rattle.theorems.specs.Tally.{flag, tally, tally-set}
 use Rattle.theorems.specs.Invariant.{Inv}
-use Rattle.theorems.specs.InvariantStep.{Keeps, Split, told, keep, vacancy-by, framed}
+use Rattle.theorems.specs.InvariantStep.{Keeps, Split, told, keep, vacancy-by, framed, Becomes}
 use Rattle.theorems.specs.Sent.{Good}
 use Rattle.theorems.specs.Facts.{list-off, away-fits, Home, home-fits, slot-home, few-less, waiter-below, hit-self, in-slot}
 
 -- what the two have in common: c is removed, its status becomes st, the packets gone leave the wire
-pub record Leaver (r : LockState) (c : ClientId) (st : Status) (gone rest : List Packet) : Type 0 where
+pub record Leaver (r : LockState) (c : ClientId) (st : ClientState) (gone rest : List Packet) : Type 0 where
   pub split : Split r gone rest
-  pub waits : (d : ℕ) (m : Mode) → tally (waitingP d m) gone + waitF m (told r c st d) ≡ waitF m (statusAt r d)
+  pub waits : (d : ℕ) (m : Mode) → tally (waitingP d m) gone + waitF m (told r c st d .status) ≡ waitF m (statusAt r d)
   pub lists : (d : ℕ) → tally (listedP d) gone ≡ 0
-  pub holds : (d : ℕ) → holdF (statusAt r d) + tally (owedP d) gone ≡ holdF (told r c st d) + one d c
-  pub rels : (d : ℕ) → tally (releaseP d) rest ≤ idleF (told r c st d)
+  pub holds : (d : ℕ) → holdF (statusAt r d) + tally (owedP d) gone ≡ holdF (told r c st d .status) + one d c
+  pub rels : (d : ℕ) → tally (releaseP d) rest ≤ idleF (told r c st d .status)
   pub agent : tally agentP gone ≡ 0
   pub incs : tally incarnationP gone ≡ 0
   pub marks : tally markP gone ≡ 0
-  pub modes : (d : ℕ) → clash (r .decider .owner) (told r c st d) ≡ 0
+  pub client : Becomes r c st
+  pub owed : ownedShared (r .decider .owner) ≡ false → (d : ℕ) → tally (owedP d) rest + flag (noteAt r d)
+      ≤ tally (releaseP d) rest + idleF (told r c st d .status)
 
 none-listed : (hs : List Bool) → any (λ (b : Bool). b) hs ≡ false → tally flag hs ≡ 0
 unfolding tally
@@ -37,10 +39,10 @@ some-listed (true ∷ hs) e z = omega arith
 some-listed (false ∷ hs) e z = some-listed hs e (omega arith)
 
 module _ (pref : ℕ) (r : LockState) (i : Inv r) (k : MachineId) (kk : k .0 < machines) (a : Agent) (es : slotAt r (k .0) ≡ someAgent a) (c : ClientId)
-    (cl : c .0 < clients) (li : listed a c ≡ true) (st : Status) (gone rest : List Packet) (le : Leaver r c st gone rest) where
-  -- the site, with that status
+    (cl : c .0 < clients) (li : listed a c ≡ true) (st : ClientState) (gone rest : List Packet) (le : Leaver r c st gone rest) where
+  -- the site, with that status and note
   abbrev site : Site
-  site = withSlot (withStatus (siteOf pref r k c) st) (someAgent a)
+  site = withSlot (withNote (withStatus (siteOf pref r k c) (st .status)) (st .lost)) (someAgent a)
 
   abbrev hs : List Bool
   hs = without a c
@@ -67,7 +69,8 @@ module _ (pref : ℕ) (r : LockState) (i : Inv r) (k : MachineId) (kk : k .0 < m
         rels = λ d. omega (arith, z d, le .rels d);
         agent = omega (arith, h, le .agent);
         incs = λ x q. omega (arith, q, n, ma, le .incs, le .marks);
-        modes = le .modes;
+        client = le .client;
+        owed = λ q d. omega (arith, z d, le .owed q d);
         fitting = f;
         slot = g;
         reach = fa;

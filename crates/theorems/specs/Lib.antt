@@ -53,3 +53,5 @@ pub mod WritersFirst
 pub mod Naming
 -- ---- how often a packet has circled
 pub mod Circling
+-- ---- lost grants and giving up
+pub mod GivingUp

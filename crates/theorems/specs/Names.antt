@@ -8,12 +8,13 @@ pub use Rattle.model.specs.declared.{Message.the-variants.{Free, Acquire, Grant
 pub use Rattle.model.specs.declared.{Status.Status, Status.the-variants.{Idle, Waiting, Holding}, ClientState.ClientState, Site.Site, LockState.LockState}
 pub use Rattle.model.specs.declared.{Cluster.Cluster}
 pub use Rattle.model.specs.declared.{Call.Call, Call.the-variants.{Acquire as AcquireCall, Release as ReleaseCall, Deliver as DeliverCall}}
+pub use Rattle.model.specs.declared.{Call.the-variants.{Lose as LoseCall, GiveUp as GiveUpCall}}
 pub use Rattle.model.specs.declared.{Refusal.Refusal}
 pub use Rattle.model.specs.declared.{Refusal.the-variants.{Malformed, LockRange, MachineRange, TaskRange, ModeRange, NotIdle, StillNamed, NotHolding}}
 pub use Rattle.model.specs.declared.{Refusal.the-variants.{IndexRange, CannotPlace, WireFull, BadRecord, TranscriptLength, NotQuiescent, NotWaiting}}
-pub use Rattle.model.specs.declared.{Refusal.the-variants.{PreferenceRange}}
+pub use Rattle.model.specs.declared.{Refusal.the-variants.{PreferenceRange, CannotGiveUp, CannotLose}}
 pub use Rattle.model.specs.declared.{Answer.Answer, Answer.the-variants.{Accepted, Refused}}
-pub use Rattle.model.specs.declared.{Reason.Reason, Reason.the-variants.{Requested, Granted, Rejected, Queued, Carried}}
+pub use Rattle.model.specs.declared.{Reason.Reason, Reason.the-variants.{Requested, Granted, Rejected, Queued, Carried, GrantLost}}
 pub use Rattle.model.specs.declared.{ReasonAnswer.ReasonAnswer, ReasonAnswer.the-variants.{Because, Refused as NoReason}}
 pub use Rattle.model.specs.declared.{Found.Found, Found.the-variants.{Nowhere, At}}
 pub use Rattle.model.specs.declared.{Handling.Handling, Handling.the-variants.{None, NoAgent, NotHolder, Taken}}
@@ -33,31 +34,34 @@ pub use borrow.Author.Tests.{eqb-true, eqb-false, eq-eqb, ne-eqb, ltb-true, ltb-
 pub use Rattle.model.specs.Lists.{pick, any, all, IsFirst}
 unfoldable pub use Rattle.model.specs.Lists.{count, isAt, indices, removed}
 pub use Rattle.model.specs.States.{locks, machines, tasks, clients, queueCapacity, wireCapacity, clientOf, machineOf, modeOf, isShared, noHolders, newAgent}
-pub use Rattle.model.specs.States.{someAgent, agentOn, listed, idle, statusOf, plain, carrying, resent, unowned, lockIn, preferences, prefersWriters}
+pub use Rattle.model.specs.States.{someAgent, agentOn, listed, idle, statusOf, noteOf, isWaiting, plain, carrying, resent, unowned, lockIn, preferences}
+pub use Rattle.model.specs.States.{prefersWriters}
 unfoldable pub use Rattle.model.specs.States.{queueOf, waiters, noAgent, blankPacket, wireOf, packets, freshLock, freshWith}
-pub use Rattle.model.specs.WellFormed.{isClient, isFree, circledFormed}
-unfoldable pub use Rattle.model.specs.WellFormed.{lockFormed, wellFormed}
-pub use Rattle.model.specs.Changes.{siteOf, withDecider, withSlot, withStatus, Verdict, cannot-place, does, apply, accepted}
+pub use Rattle.model.specs.WellFormed.{isClient, isFree, circledFormed, toDecider}
+unfoldable pub use Rattle.model.specs.WellFormed.{clientFormed, lockFormed, wellFormed}
+pub use Rattle.model.specs.Changes.{siteOf, withDecider, withSlot, withStatus, withNote, Verdict, cannot-place, does, apply, accepted}
 unfoldable pub use Rattle.model.specs.Changes.{finish}
 pub use Rattle.model.specs.Asking.{changed, joining, queuing, noRoom, withRoom, anyHolder, without, departing, leaves, lists, writerIn}
-unfoldable pub use Rattle.model.specs.Asking.{mayJoin, clientAsks, clientAcquires, handOver, staysIf, clientReleases}
+unfoldable pub use Rattle.model.specs.Asking.{mayJoin, clientAsks, clientAcquires, handOver, staysIf, clientReleases, clientGivesUp, grantIsLost}
 pub use Rattle.model.specs.AtDecider.{next, sentOn, ownedShared, grantsWith, grantsFirst, shares, noting, current, rejects, passesOn}
-unfoldable pub use Rattle.model.specs.AtDecider.{mayShare, toOwner, decidesAcquire, decidesFree, decidesGrant, decides, atDecider}
-pub use Rattle.model.specs.AtMachine.{sentBack, sendsBack, grantOf, installed, requeued}
-unfoldable pub use Rattle.model.specs.AtMachine.{admitted, staying, joined, installs, grantArrives, rejectedGrantArrives, marked, unmarked, acquireArrives}
+unfoldable pub use Rattle.model.specs.AtDecider.{mayShare, toOwner, decidesRelease, decidesAcquire, decidesFree, decidesGrant, decides, atDecider}
+pub use Rattle.model.specs.AtMachine.{sentBack, sendsBack, grantOf, installed, requeued, grantedIn, queues, unqueuing}
+unfoldable pub use Rattle.model.specs.AtMachine.{admitted, staying, joined, takenOff, installs, grantArrives, rejectedGrantArrives, marked, unmarked}
+unfoldable pub use Rattle.model.specs.AtMachine.{acquireArrives}
 unfoldable pub use Rattle.model.specs.AtMachine.{releaseArrives, freeArrives, arrives, atMachine, handles}
 pub use Rattle.model.specs.Calls.{refusing, isHolding, messageNames, names, machineAt, clientNamed, packetAt, answersOf, after, lockOf}
-pub use Rattle.model.specs.Calls.{handlingsOf, latest}
+pub use Rattle.model.specs.Calls.{handlingsOf, latest, isGrant}
 unfoldable pub use Rattle.model.specs.Calls.{delivers, acquireStep, releaseStep, takes, deliverStep, settled, unless, acquire, release, deliver, perform, run}
+unfoldable pub use Rattle.model.specs.Calls.{giveUpStep, drops, loseStep, canBeLost, lose, giveUp}
 unfoldable pub use Rattle.model.specs.Calls.{handledAt, lastTold, fresh}
 pub use Rattle.model.specs.Refusals.{refusalNumber, number}
 pub use Rattle.model.specs.Counts.{agentsIn, isMarked, marksIn, uncounted}
 pub use Rattle.model.specs.Trace.{View, unseen, isAccepted, toMachine, isGrantFor, showsGrant, afterAcquire}
-pub use Rattle.model.specs.Trace.{afterGrant, afterRelease, phaseAfter}
+pub use Rattle.model.specs.Trace.{afterGrant, afterRelease, afterGiveUp, afterLoss, viewed, phaseAfter, lostAfter}
 unfoldable pub use Rattle.model.specs.Trace.{sees, watch}
 pub use Rattle.model.specs.History.{messageNumbers, sameMessage, numberOf, sentBehind, ownNumbers, historyAfter}
 unfoldable pub use Rattle.model.specs.History.{sameNumbers, numbersAfter, numbersOf}
-pub use Rattle.model.specs.Reasons.{isRequestOf, requests, grants, grantRejected, queuedIn, isWaiting, reasonTests, reasonNumber, reasonValues}
+pub use Rattle.model.specs.Reasons.{isRequestOf, requests, grants, grantRejected, queuedIn, reasonTests, reasonNumber, reasonValues}
 unfoldable pub use Rattle.model.specs.Reasons.{isTrue, inQueues, reasonsIn, firstTrue, reasonIn, reasonUnless, reason}
 pub use Rattle.laws.specs.Tests.{and-left, and-right, both, or-left, or-right, bool-cases}
 pub use Rattle.laws.specs.Shapes.{packets-of, waiters-of}

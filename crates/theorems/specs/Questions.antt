@@ -10,12 +10,12 @@ use Rattle.theorems.specs.Names.{false, Shared, AgentSlot, ToDecider, Fr
 use Rattle.theorems.specs.Names.{Found, Nowhere, At}
 use Rattle.model.specs.States.{queueOf, waiters, someAgent, noAgent, blankPacket, wireOf, packets, freshLock}
 use Rattle.model.specs.WellFormed.{shaped, isBlankWaiter, distinct, queueFormed, agentFormed, isBlankAgent, slotFormed, messageFormed, packetFormed}
-use Rattle.model.specs.WellFormed.{isBlankPacket, wireFormed, lockFormed, wellFormed}
+use Rattle.model.specs.WellFormed.{isBlankPacket, wireFormed, clientFormed, lockFormed, wellFormed}
 use Rattle.model.specs.Refusals.{first}
 use Rattle.model.specs.Calls.{names}
 use Rattle.model.specs.Reasons.{isTrue, inQueues, reasonsIn, firstTrue, reasonIn, reasonUnless, reason, reasonNumber, reasonValues}
-use Rattle.theorems.specs.Scenarios.{machine, client, on, owned, queue, agent, returning, nowhere, others, lock, with0, d1, d1-held, d2, d6}
-use Rattle.theorems.specs.Scenarios.{waits, waiting4, d8-queued, f-unmarked, f-rejected, f-requeued, grantTo1, markedTo0}
+use Rattle.theorems.specs.Scenarios.{machine, client, on, owned, queue, agent, returning, nowhere, others, lock, with0, d1, d1-held, d2, d6, waits}
+use Rattle.theorems.specs.Scenarios.{waiting4, d8-queued, f-unmarked, f-rejected, f-requeued, grantTo1, markedTo0, lostBy, lost-noted-is, gave-up-is}
 
 -- with lock 0 in this state: asked of a lock, a machine and a task, it is answered with this number and these values
 pub data Question : Type 0 where
@@ -53,9 +53,9 @@ without = someAgent (queue (waits 8 ∷ []) (agent Shared [] 0))
 abbrev freeing : AgentSlot → Packet
 freeing x = carrying Free ToDecider (x .agent)
 
--- no wire has 34 packets
+-- no wire has 50 packets
 abbrev too-long : LockState
-too-long = record { decider = freshLock .decider; agents = nowhere; clients = others; wire = record { slots = wireOf [] .slots; len = 34 } }
+too-long = record { decider = freshLock .decider; agents = nowhere; clients = others; wire = record { slots = wireOf [] .slots; len = 50 } }
 
 pub data Name : Type 0 where
   requested granted granted-marked rejected queued queued-second carried : Name
@@ -63,6 +63,7 @@ pub data Name : Type 0 where
   request-first grant-first rejected-first machine-queue-first : Name
   lowest-request lowest-grant lowest-rejected lowest-machine lowest-packet : Name
   marked-none other-none nothing : Name
+  lost lost-last gave-up : Name
 
 abbrev pub questions : Name → Question
 -- in runs: the scenarios' states
@@ -98,9 +99,14 @@ questions lowest-packet = asks (by-hand (set nowhere 0 without) (freeing without
 questions marked-none = asks (by-hand nowhere (markedTo0 ∷ plain (Release (client 4)) ToDecider ∷ [])) 0 1 0 (15 ∷ [])
 questions other-none = asks (by-hand (set nowhere 0 without) (asked8 ∷ plain (Grant (client 0) Shared) ToDecider ∷ freeing without ∷ [])) 0 1 0 (15 ∷ [])
 questions nothing = asks (by-hand nowhere []) 0 1 0 (15 ∷ [])
+-- 1/0's GRANT was lost; by hand, it stands in a queue too; and it gave up
+questions lost = asks lost-noted-is 0 1 0 (0 ∷ 6 ∷ [])
+questions lost-last = asks (lock (owned Shared 0 0) nowhere (lostBy 4 others) (freeing front ∷ [])) 0 1 0 (0 ∷ 5 ∷ 0 ∷ 0 ∷ [])
+questions gave-up = asks gave-up-is 0 1 0 (15 ∷ [])
 
 pub questions-answered : (n : Name) → Answered (questions n)
 unfolding reason reasonUnless reasonIn firstTrue reasonsIn inQueues isTrue isAt indices first
+    clientFormed
     wellFormed lockFormed wireFormed packetFormed messageFormed slotFormed agentFormed isBlankAgent isBlankPacket isBlankWaiter queueFormed distinct shaped
     padded queueOf waiters noAgent blankPacket wireOf packets freshLock
 questions-answered requested = refl
@@ -131,6 +137,9 @@ questions-answered lowest-packet = refl
 questions-answered marked-none = refl
 questions-answered other-none = refl
 questions-answered nothing = refl
+questions-answered lost = refl
+questions-answered lost-last = refl
+questions-answered gave-up = refl
 
 -- ---- on this wire, the first packet that names this client is found there
 pub data Search : Type 0 where

@@ -1,15 +1,16 @@
--- A lock whose wire is empty and that nobody holds is fresh.
+-- A lock whose wire is empty, that nobody holds and of which no GRANT was lost is fresh.
 use Rattle.laws.specs.Formed.{parts, agent-blank, wire-canonical}
 use Rattle.laws.specs.Shapes.{wire-whole}
 use Rattle.model.specs.WellFormed.{slotFormed}
 use Rattle.theorems.specs.Names.{Mode, Exclusive, Shared, Owner, Unowned, Owned, AgentSlot, Packet, Status, Idle, Waiting, Holding, ClientState}
 use Rattle.theorems.specs.Names.{LockState, _≡_, refl, Bool, true, false, List, [], _∷_, ℕ, suc, _+_, arith, length, getD, replicate, eq-eqb, all, idle}
-use Rattle.theorems.specs.Names.{noAgent, wireOf, packets, freshLock, lockFormed, and-left, and-right, bool-cases, machines, clients}
+use Rattle.theorems.specs.Names.{noAgent, wireOf, packets, freshLock, lockFormed, and-left, and-right, bool-cases, machines, clients, ap}
 use Rattle.theorems.specs.Tally.{flag, tally, tally-none}
-use Rattle.theorems.specs.Weights.{statusAt, weight, queuedS, waitingP, listedS, listedP, owedP, agentS, agentP, markP, rejectedP, heads, vacantS, waitF}
-use Rattle.theorems.specs.Weights.{holdF, ownedF, waitedF}
+use Rattle.theorems.specs.Weights.{statusAt, weight, queuedS, waitingP, listedS, listedP, owedP, agentS, agentP, markP, rejectedP, heads, vacantS}
+use Rattle.theorems.specs.Weights.{waitF, holdF, ownedF, waitedF, noteAt}
 use Rattle.theorems.specs.Invariant.{Inv}
-use Rattle.theorems.specs.Facts.{absent, nobody, absent-of, free-inc}
+use Rattle.theorems.specs.Facts.{absent, nobody, absent-of, free-inc, statuses}
+use Rattle.theorems.specs.InvariantStep.{note-below}
 
 -- an agent that lists nobody is vacant
 unlisted : (hs : List Bool) → ((d : ℕ) → flag (getD hs d false) ≡ 0) → tally flag hs ≡ 0
@@ -40,9 +41,12 @@ blank-slots [] f z = refl
 blank-slots (x ∷ xs) f z =
     rw (blank-slot x (and-left (slotFormed x) _ f) (absent-of x (omega arith)), ← blank-slots xs (and-right (slotFormed x) _ f) (omega arith))
 
-idle-clients : (cs : List ClientState) → ((d : ℕ) → getD cs d idle .status ≡ Idle) → cs ≡ replicate (length cs) idle
-idle-clients [] h = refl
-idle-clients (c ∷ cs) h = let e : c .status ≡ Idle = h 0 in rw (e, ← idle-clients cs (λ d. h (suc d)))
+idle-clients : (cs : List ClientState) → ((d : ℕ) → getD cs d idle .status ≡ Idle) → ((d : ℕ) → getD cs d idle .lost ≡ false) → cs ≡ replicate (length cs) idle
+idle-clients [] h n = refl
+idle-clients (c ∷ cs) h n =
+    let e : c .status ≡ Idle = h 0 in
+    let f : c .lost ≡ false = n 0 in
+    rw (e, f, ← idle-clients cs (λ d. h (suc d)) (λ d. n (suc d)))
 
 idle-is : (s : Status) → waitF Exclusive s + waitF Shared s + holdF s ≡ 0 → s ≡ Idle
 unfolding waitF holdF
@@ -61,7 +65,7 @@ unflagged true e = absurd (omega arith)
 unflagged false e = refl
 
 module _ (pref : ℕ) (r : LockState) (i : Inv r) (f : lockFormed pref r ≡ true) (empty : packets (r .wire) ≡ [])
-    (nobody : (d : ℕ) → holdF (statusAt r d) ≡ 0) where
+    (nobody : (d : ℕ) → holdF (statusAt r d) ≡ 0) (unnoted : (d : ℕ) → noteAt r d ≡ false) where
   -- with no packets a weight is that of the agents
   only-slots : (g : Packet → ℕ) (h : AgentSlot → ℕ) → weight g h r ≡ tally h (r .agents)
   unfolding weight tally
@@ -74,7 +78,24 @@ module _ (pref : ℕ) (r : LockState) (i : Inv r) (f : lockFormed pref r ≡ tru
   no-agents : tally agentS (r .agents) ≡ 0
   no-agents =
       no-agent-on-any (r .agents) (omega (arith, i .vacancy, only-slots rejectedP vacantS, nothing markP))
-      (λ d. omega (arith, i .holds d, only-slots (listedP d) (listedS d), nobody d, nothing (owedP d)))
+      listed-none
+    where
+      -- who waits is in a queue, so nobody is listed
+      listed-none : (d : ℕ) → tally (listedS d) (r .agents) ≡ 0
+      listed-none d =
+          omega (
+            arith,
+            i .presence d,
+            i .asks d Exclusive,
+            i .asks d Shared,
+            note-below Exclusive (noteAt r d),
+            note-below Shared (noteAt r d),
+            ap flag (unnoted d),
+            nobody d,
+            statuses (statusAt r d),
+            only-slots (listedP d) (listedS d),
+            nothing (owedP d),
+          )
 
   owner : r .decider .owner ≡ Unowned
   owner = unowned-is _ (omega (arith, i .agent, only-slots agentP agentS, no-agents))
@@ -82,13 +103,15 @@ module _ (pref : ℕ) (r : LockState) (i : Inv r) (f : lockFormed pref r ≡ tru
   waiting-none : (d : ℕ) (m : Mode) → waitF m (statusAt r d) ≡ 0
   waiting-none d m =
       let queued = tally-none agentS (queuedS d m) (λ x z. absent x (absent-of x z) .queuedS d m) (r .agents) no-agents in
-      omega (arith, i .waits d m, only-slots (waitingP d m) (queuedS d m), queued)
+      omega (arith, i .asks d m, only-slots (waitingP d m) (queuedS d m), queued, note-below m (noteAt r d), ap flag (unnoted d))
 
   agents : r .agents ≡ replicate machines noAgent
   agents = rw (i .all-machines) at (blank-slots (r .agents) (parts r f .agents) no-agents)
 
-  statuses : r .clients ≡ replicate clients idle
-  statuses = rw (i .all-clients) at (idle-clients (r .clients) (λ d. idle-is _ (omega (arith, waiting-none d Exclusive, waiting-none d Shared, nobody d))))
+  all-idle : r .clients ≡ replicate clients idle
+  all-idle =
+      rw (i .all-clients) at
+      (idle-clients (r .clients) (λ d. idle-is _ (omega (arith, waiting-none d Exclusive, waiting-none d Shared, nobody d))) unnoted)
 
   wire : r .wire ≡ wireOf []
   wire = rw empty at (wire-whole (r .wire) (wire-canonical (r .wire) (parts r f .wire)))
@@ -99,4 +122,4 @@ module _ (pref : ℕ) (r : LockState) (i : Inv r) (f : lockFormed pref r ≡ tru
 
   pub is-fresh : r ≡ freshLock
   unfolding freshLock
-  is-fresh = rw (owner, free-inc r i owner, no-writer, agents, statuses, wire)
+  is-fresh = rw (owner, free-inc r i owner, no-writer, agents, all-idle, wire)

@@ -1,8 +1,9 @@
 -- The reasons that are true of a client (the model's Reasons), counted: as many as the invariant counts of its waiting.
-use Rattle.theorems.specs.Names.{ClientId, Mode, Exclusive, Shared, Waiter, AgentSlot, Message, Acquire, Grant, Release, Free, Packet, LockState, Reason}
-use Rattle.theorems.specs.Names.{Requested, Granted, Rejected, Queued, Carried, _≡_, refl, sym, ap, _∙_, Bool, true, false, _&&_, not, List, [], _∷_}
-use Rattle.theorems.specs.Names.{_++_, map, ℕ, zero, suc, _+_, arith, eqb, eqb-true, eqb-false, eq-eqb, ne-eqb, isAt, indices, isClient, waiters, packets}
-use Rattle.theorems.specs.Names.{bool-cases, isRequestOf, requests, grants, grantRejected, queuedIn, isTrue, inQueues, reasonsIn, isGrantFor}
+use Rattle.theorems.specs.Names.{ClientId, Mode, Exclusive, Shared, Waiter, AgentSlot, Message, Acquire, Grant, Release, Free, Packet, LockState}
+use Rattle.theorems.specs.Names.{Reason, Requested, Granted, Rejected, Queued, Carried, _≡_, refl, sym, ap, _∙_, Bool, true, false, _&&_, not, List, []}
+use Rattle.theorems.specs.Names.{_∷_, _++_, map, ℕ, zero, suc, _+_, arith, eqb, eqb-true, eqb-false, eq-eqb, ne-eqb, isAt, indices, isClient, waiters}
+use Rattle.theorems.specs.Names.{packets, bool-cases, isRequestOf, requests, grants, grantRejected, queuedIn, isTrue, inQueues, reasonsIn, isGrantFor}
+use Rattle.theorems.specs.Names.{GrantLost, noteOf}
 use Rattle.laws.specs.Lists.{at-map}
 use Rattle.theorems.specs.Tally.{flag, gate, tally, tally-append, tally-map, tally-ext, tally-add, tally-zero}
 use Rattle.theorems.specs.Weights.{weight, hit, hitW, askM, queuedS, waitingP}
@@ -115,10 +116,18 @@ module _ (s : LockState) (c : ClientId) where
   abbrev pub true-in : List Reason → ℕ
   true-in = passing (isTrue s c)
 
-  of-five : (v w x y z : List Reason) → true-in (v ++ (w ++ (x ++ (y ++ z)))) ≡ true-in v + (true-in w + (true-in x + (true-in y + true-in z)))
-  of-five v w x y z =
+  of-six : (v w x y z u : List Reason) → true-in (v ++ (w ++ (x ++ (y ++ (z ++ u)))))
+      ≡ true-in v + (true-in w + (true-in x + (true-in y + (true-in z + true-in u))))
+  of-six v w x y z u =
       let g : Reason → ℕ = (λ r. flag (isTrue s c r)) in
-      omega (arith, tally-append g v (w ++ (x ++ (y ++ z))), tally-append g w (x ++ (y ++ z)), tally-append g x (y ++ z), tally-append g y z)
+      omega (
+        arith,
+        tally-append g v (w ++ (x ++ (y ++ (z ++ u)))),
+        tally-append g w (x ++ (y ++ (z ++ u))),
+        tally-append g x (y ++ (z ++ u)),
+        tally-append g y (z ++ u),
+        tally-append g z u,
+      )
 
   on-wire : (f : ℕ → Reason) (p : Packet → Bool) → ((i : ℕ) → isTrue s c (f i) ≡ isAt p ps i) → true-in (wired f) ≡ passing p ps
   on-wire f p h = passing-indices f (isTrue s c) p 0 ps (λ i j e. let same : j ≡ i = omega (arith, e) in rw same (h i))
@@ -127,12 +136,12 @@ module _ (s : LockState) (c : ClientId) where
       → true-in (inQueues f 0 xs) ≡ tally (lined c) xs
   in-queues f xs h = passing-queues c f (isTrue s c) 0 xs (λ i j a e. let same : j ≡ i = omega (arith, e) in rw same (h i a))
 
-  -- as many reasons are true as the client waits, in either mode
+  -- as many reasons are true as there is of the client that asks, in either mode, and one more where it has the note of a lost GRANT
   pub reasons-are : true-in (reasonsIn s)
-      ≡ weight (waitingP (c .0) Exclusive) (queuedS (c .0) Exclusive) s + weight (waitingP (c .0) Shared) (queuedS (c .0) Shared) s
-  unfolding isTrue reasonsIn weight
+      ≡ weight (waitingP (c .0) Exclusive) (queuedS (c .0) Exclusive) s + weight (waitingP (c .0) Shared) (queuedS (c .0) Shared) s + flag (noteOf s c)
+  unfolding isTrue reasonsIn weight tally
   reasons-are =
-      let parts = of-five (wired Requested) (wired Granted) (wired Rejected) (inQueues on 0 (s .agents)) (inQueues Carried 0 inside) in
+      let parts = of-six (wired Requested) (wired Granted) (wired Rejected) (inQueues on 0 (s .agents)) (inQueues Carried 0 inside) (GrantLost ∷ []) in
       let machines-are = in-queues on (s .agents) (λ i a. refl) in
       let packets-are = in-queues Carried inside (λ i a. at-map (queuedIn c a) carried i ps) ∙ tally-map (lined c) carried ps in
       let slots = tally-ext (lined c) _ (lines-up c) (s .agents) ∙ tally-add (queuedS (c .0) Exclusive) (queuedS (c .0) Shared) (s .agents) in

@@ -1,7 +1,7 @@
 -- Why a client waits (the model's Reasons). Where it waits, one reason is true of it; and the search tries all that can be true, so it comes to that one.
 use mathlib.Core.Logic.{_⊎_, inl, inr}
 use Rattle.theorems.specs.Names.{LockId, MachineId, TaskId, ClientId, Mode, Exclusive, Shared, AgentSlot, Status, Idle, Waiting, Holding, LockState}
-use Rattle.theorems.specs.Names.{Call, Refusal, Answer, Accepted, Refused, NotWaiting, Reason, Requested, Granted, Rejected, Queued, Carried}
+use Rattle.theorems.specs.Names.{Call, Refusal, Answer, Accepted, Refused, NotWaiting, Reason, Requested, Granted, Rejected, Queued, Carried, GrantLost}
 use Rattle.theorems.specs.Names.{ReasonAnswer, Because, NoReason, _≡_, refl, sym, ap, _∙_, Bool, true, false, false≢true, List, [], _∷_, _++_, map, ℕ}
 use Rattle.theorems.specs.Names.{zero, suc, _+_, _≤_, _<_, arith, lt-leb, getD, isAt, indices, isClient, waiters, statusOf, lockIn, after, phaseAfter}
 use Rattle.theorems.specs.Names.{clientOf, locks, machines, tasks, bool-cases, and-right, requests, grants, grantRejected, queuedIn, isTrue, inQueues}
@@ -9,7 +9,7 @@ use Rattle.theorems.specs.Names.{reasonsIn, firstTrue, isWaiting, reason
 use Rattle.model.specs.Refusals.{first}
 use Rattle.laws.specs.Lists.{at-map}
 use Rattle.theorems.specs.Tally.{flag, tally}
-use Rattle.theorems.specs.Weights.{waitF, sameMode}
+use Rattle.theorems.specs.Weights.{waitF, sameMode, noteAt, noteF}
 use Rattle.theorems.specs.Invariant.{Inv}
 use Rattle.theorems.specs.ReasonWeights.{passing, ps, wired, on, carried, inside, true-in, reasons-are}
 use Rattle.theorems.specs.Runs.{reached}
@@ -57,6 +57,10 @@ module _ (c : ClientId) (f : ℕ → ℕ → Reason) where
   among-queues n (suc i) j a (x ∷ xs) e h =
       among-right _ (map (f n) (indices 0 (waiters (x .agent .queue)))) _ (among-queues (suc n) i j a xs (omega (arith, e)) h)
 
+lost-last : Among GrantLost (GrantLost ∷ [])
+unfolding Among
+lost-last = inl refl
+
 -- ---- the search
 abbrev isBecause : ReasonAnswer → Bool
 isBecause (Because r) = true
@@ -81,7 +85,10 @@ module _ (s : LockState) (c : ClientId) where
   tried (Carried i n) h =
       among-right _ (wired s c Requested) _ (among-right _ (wired s c Granted) _ (among-right _ (wired s c Rejected) _
       (among-right _ (inQueues (on s c) 0 (s .agents)) _
-      (among-queues c Carried 0 i i n (inside s c) (omega arith) (sym (at-map (queuedIn c n) (carried s c) i (ps s c)) ∙ h)))))
+      (among-left _ _ _ (among-queues c Carried 0 i i n (inside s c) (omega arith) (sym (at-map (queuedIn c n) (carried s c) i (ps s c)) ∙ h))))))
+  tried GrantLost h =
+      among-right _ (wired s c Requested) _ (among-right _ (wired s c Granted) _ (among-right _ (wired s c Rejected) _
+      (among-right _ (inQueues (on s c) 0 (s .agents)) _ (among-right _ (inQueues Carried 0 (inside s c)) _ lost-last))))
 
   -- what is found is true
   found-true : (rs : List Reason) (r : Reason) → firstTrue s c rs ≡ Because r → isTrue s c r ≡ true
@@ -136,8 +143,22 @@ searches s c = record { sound = sound; complete = complete }
 -- exactly one, of a state that keeps the invariant
 one-true : (s : LockState) (c : ClientId) (m : Mode) → Inv s → statusOf s c ≡ Waiting m → true-in s c (reasonsIn s) ≡ 1
 unfolding waitF
-one-true s c m i w = omega (arith, reasons-are s c, i .waits (c .0) Exclusive, i .waits (c .0) Shared, ap (waitF Exclusive) w, ap (waitF Shared) w, once m)
+one-true s c m i w =
+    omega (
+      arith,
+      reasons-are s c,
+      i .asks (c .0) Exclusive,
+      i .asks (c .0) Shared,
+      note-apart (noteAt s (c .0)),
+      i .most (c .0),
+      ap (waitF Exclusive) w,
+      ap (waitF Shared) w,
+      once m,
+    )
   where
+    note-apart : (b : Bool) → noteF Exclusive b + noteF Shared b ≡ flag b
+    note-apart b = unfold noteF in omega arith
+
     once : (m : Mode) → flag (sameMode m Exclusive) + flag (sameMode m Shared) ≡ 1
     once Exclusive = refl
     once Shared = refl
@@ -182,7 +203,8 @@ fromValues : List ℕ → Reason
 fromValues vs =
     let at : ℕ = getD vs 1 0 in
     let ahead : ℕ = getD vs 2 0 in
-    getD (Requested 0 ∷ Requested at ∷ Granted at ∷ Rejected at ∷ Queued (record { 0 = at }) ahead ∷ Carried at ahead ∷ []) (getD vs 0 0) (Requested 0)
+    getD
+    (Requested 0 ∷ Requested at ∷ Granted at ∷ Rejected at ∷ Queued (record { 0 = at }) ahead ∷ Carried at ahead ∷ GrantLost ∷ []) (getD vs 0 0) (Requested 0)
 
 values-stand : (r : Reason) → fromValues (reasonValues (Because r)) ≡ r
 unfolding fromValues
@@ -191,6 +213,7 @@ values-stand (Granted i) = refl
 values-stand (Rejected i) = refl
 values-stand (Queued k n) = refl
 values-stand (Carried i n) = refl
+values-stand GrantLost = refl
 
 no-zero : (r : Refusal) → refusalNumber r ≡ 0 → ⊥
 no-zero r e = false≢true (ap isAccepted (numbered .accepts (Refused r) e))

@@ -5,9 +5,9 @@ use mathlib.Core.Bool.{not, true≢false}
 use mathlib.Core.List.{List, [], _∷_}
 use Prim.Native.Nat.{ℕ, zero, suc}
 use native.Mathlib.Omega.{arith}
-use Rattle.theorems.specs.Names.{LockId, MachineId, Mode, Shared, Unowned, Owned, AgentSlot, Cluster, Call, DeliverCall, LockRange, Refusal}
-use Rattle.theorems.specs.Names.{Answer, Accepted, Refused, Outcome, Malformed, LockState, Drained, locks, number}
-use Rattle.theorems.specs.Names.{ClientId, Packet, Found, Nowhere, At, any, IsFirst, isAt, isFree, names, true, false}
+use Rattle.theorems.specs.Names.{LockId, MachineId, Mode, Shared, Unowned, Owned, AgentSlot, Cluster, Call, DeliverCall, LockRange, Refusal, Answer}
+use Rattle.theorems.specs.Names.{Accepted, Refused, Outcome, Malformed, LockState, Drained, locks, number, ClientId, Packet, Found, Nowhere, At, any}
+use Rattle.theorems.specs.Names.{IsFirst, isAt, isFree, names, true, false}
 use lib.ListN.{length, drop, getD}
 use lib.Dec.{leb}
 use Rattle.model.specs.Lists.{padded}
@@ -18,7 +18,7 @@ use Rattle.model.specs.Calls.{perform, lockOf, run}
 use Rattle.model.specs.Drain.{allowance, Next, none, some, nextCall, Quiescent, Drainage, drainage, drainCalls, drainRefused, drainEnded, drainUnless, drain}
 use Rattle.laws.specs.Finding.{first-is}
 use Rattle.laws.specs.CallSteps.{perform-elsewhere}
-use Rattle.laws.specs.Next.{NextIs, delivers-first, releases-holder, next-is}
+use Rattle.laws.specs.Next.{NextIs, delivers-first, releases-holder, gives-up, next-is}
 use Rattle.theorems.specs.Questions.{free-first, D7, free-of-0, wires-searched}
 use Rattle.theorems.specs.Scenarios.{D1, D1-drained, D4, D10, scenarios-hold, machine, on, acquires0, delivers0, lock8, with0, d1, d3-rejected, d4}
 use Rattle.theorems.specs.Scenarios.{client, d6}
@@ -125,6 +125,7 @@ apart r e = let z : _≡_ {A = ℕ} 0 1 = cc in omega arith
 next-lock : {l : LockId} {s : LockState} {a : Call} → NextIs l s a → lockOf a ≡ l
 next-lock (delivers-first b) = refl
 next-lock (releases-holder k t m i b e st) = refl
+next-lock (gives-up k t i b e nb nt) = refl
 
 own : (n : ℕ) (l : LockId) (x : Cluster) → Own x l (drainage n l x)
 unfolding drainage

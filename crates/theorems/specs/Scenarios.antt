@@ -1,5 +1,6 @@
 -- The scenarios of document 01 that are marked to be proved (D1 to D10), D12 as request 3 of document 02 has it, one for each of the tempting faults, the
--- handlings of request 4, request 5's preference for writers, and the counts of request 7: each a start state, calls on lock 0, and the numbers of the answers
+-- handlings of request 4, request 5's preference for writers, the counts of request 7, and request 8's lost grants and giving up: each a start state,
+-- calls on lock 0, and the numbers of the answers
 -- and the whole cluster that follow, or what is told. One list, by name, and one theorem, by computation.
 use mathlib.Core.Path.{_≡_, refl}
 use mathlib.Core.Bool.{Bool, true, false}
@@ -9,20 +10,21 @@ use lib.ListN.{set, replicate}
 use Rattle.model.specs.Lists.{padded, removed}
 use Rattle.theorems.specs.Names.{LockId, MachineId, ClientId, Mode, Exclusive, Shared, Owned, Decider, Waiter, Agent, AgentSlot, ToDecider, ToMachine}
 use Rattle.theorems.specs.Names.{Message, Free, Acquire, Grant, Release, Packet, Status, Idle, Waiting, Holding, ClientState, LockState, Cluster, Call}
-use Rattle.theorems.specs.Names.{Handling, None, NoAgent, NotHolder, Taken, handlingsOf}
-use Rattle.theorems.specs.Names.{AcquireCall, ReleaseCall, DeliverCall, locks, machines, clients, carrying, resent, mayJoin, mayShare, number}
+use Rattle.theorems.specs.Names.{Handling, None, NoAgent, NotHolder, Taken, handlingsOf, AcquireCall, ReleaseCall, DeliverCall, LoseCall, GiveUpCall}
+use Rattle.theorems.specs.Names.{locks, machines, clients, carrying, resent, mayJoin, mayShare, number}
 use Rattle.model.specs.States.{queueOf, waiters, noHolders, newAgent, someAgent, noAgent, idle, plain, blankPacket, wireOf, packets, freshLock, statusOf}
+use Rattle.model.specs.States.{noteOf, unowned}
 use Rattle.model.specs.WellFormed.{shaped, isBlankWaiter, distinct, queueFormed, agentFormed, isBlankAgent, slotFormed, messageFormed, packetFormed}
-use Rattle.model.specs.WellFormed.{isBlankPacket, wireFormed, lockFormed, wellFormed}
+use Rattle.model.specs.WellFormed.{isBlankPacket, wireFormed, clientFormed, lockFormed, wellFormed}
 use Rattle.model.specs.Changes.{finish}
-use Rattle.model.specs.Asking.{clientAsks, clientAcquires, handOver, staysIf, clientReleases}
-use Rattle.model.specs.AtDecider.{toOwner, decidesAcquire, decidesFree, decidesGrant, decides, atDecider}
+use Rattle.model.specs.Asking.{clientAsks, clientAcquires, handOver, staysIf, clientReleases, clientGivesUp, grantIsLost}
+use Rattle.model.specs.AtDecider.{toOwner, decidesAcquire, decidesRelease, decidesFree, decidesGrant, decides, atDecider}
 use Rattle.model.specs.AtMachine.{admitted, staying, joined, installs, grantArrives, rejectedGrantArrives, marked, unmarked, acquireArrives, releaseArrives}
-use Rattle.model.specs.AtMachine.{freeArrives, arrives, atMachine, handles}
+use Rattle.model.specs.AtMachine.{takenOff, freeArrives, arrives, atMachine, handles}
 use Rattle.model.specs.Refusals.{first}
 use Rattle.model.specs.Calls.{delivers, handledAt, acquireStep, releaseStep, takes, deliverStep, settled, unless, acquire, release, deliver, perform, run}
-use Rattle.model.specs.Calls.{answersOf}
-use Rattle.model.specs.Drain.{releaseFirst, nextOf, drainage, drainEnded, drainUnless, drain}
+use Rattle.model.specs.Calls.{answersOf, lose, giveUp, giveUpStep, loseStep, drops, canBeLost}
+use Rattle.model.specs.Drain.{some, nextCall, releaseFirst, giveUpFirst, nextOf, drainage, drainEnded, drainUnless, drain}
 use Rattle.model.specs.Trace.{sees, watch, grantsIn}
 use Rattle.model.specs.History.{sameNumbers, numbersAfter, numbersOf}
 
@@ -44,6 +46,12 @@ releases0 k t = ReleaseCall (on 0) (machine k) (record { 0 = t })
 
 abbrev pub delivers0 : ℕ → Call
 delivers0 i = DeliverCall (on 0) i
+
+abbrev pub loses0 : ℕ → Call
+loses0 i = LoseCall (on 0) i
+
+abbrev pub givesUp0 : ℕ → ℕ → Call
+givesUp0 k t = GiveUpCall (on 0) (machine k) (record { 0 = t })
 
 -- no such lock, and no such mode
 abbrev pub lock8 : Call
@@ -83,7 +91,11 @@ abbrev on0 : Agent → List AgentSlot
 on0 a = set nowhere 0 (someAgent a)
 
 abbrev status : ℕ → Status → List ClientState → List ClientState
-status c st cs = set cs c (record { status = st })
+status c st cs = set cs c (record { status = st; lost = false })
+
+-- it waits, and its GRANT was lost
+abbrev pub lostBy : ℕ → List ClientState → List ClientState
+lostBy c cs = set cs c (record { status = Waiting Shared; lost = true })
 
 abbrev pub others : List ClientState
 others = replicate clients idle
@@ -113,6 +125,8 @@ pub data Scenario : Type 0 where
   told : LockState → List Call → List Handling → Scenario
   -- from this state of lock 0, whose wire is empty: calls, and the numbers of the history then
   numbered : LockState → List Call → List ℕ → Scenario
+  -- from this state of lock 0: the call that a drain makes first
+  next : LockState → Call → Scenario
 
 abbrev Leads : (LockState → Cluster) → LockState → List Call → List ℕ → LockState → Type 0
 Leads f s cs ns t = (map number (answersOf cs (f s)) ≡ ns) × (run cs (f s) ≡ f t)
@@ -123,8 +137,9 @@ Holds (writing s cs ns t) = Leads writing0 s cs ns t
 Holds (drained s n steps t) =
     (number (drain (with0 s) (on 0) .answer) ≡ n) × (drain (with0 s) (on 0) .count ≡ steps) × (drain (with0 s) (on 0) .cluster ≡ with0 t)
 Holds (told s cs hs) = handlingsOf cs (with0 s) ≡ hs
+Holds (next s a) = nextCall (on 0) s ≡ some a
 Holds (numbered s cs ns) = numbersOf (on 0) cs (with0 s) [] ≡ ns
-Holds (granted s cs who ns) = map (λ (c : ℕ). grantsIn (on 0) (client c) cs (with0 s) (statusOf s (client c))) who ≡ ns
+Holds (granted s cs who ns) = map (λ (c : ℕ). grantsIn (on 0) (client c) cs (with0 s) (statusOf s (client c)) (noteOf s (client c))) who ≡ ns
 
 -- ---- the states that the scenarios reach
 abbrev firstAgent : Agent
@@ -334,6 +349,60 @@ abbrev before-copy : List Call
 before-copy =
     acquires0 0 0 2 ∷ delivers0 0 ∷ acquires0 1 0 3 ∷ delivers0 1 ∷ delivers0 1 ∷ delivers0 0 ∷ releases0 0 0 ∷ delivers0 1 ∷ acquires0 2 0 3 ∷ delivers0 1 ∷ []
 
+-- ---- request 8: from D2, 1/0's GRANT is lost; and then 1/0 gives up
+abbrev pub lost-noted-is : LockState
+lost-noted-is = lock (owned Shared 0 1) (on0 firstAgent) (lostBy 4 holding0) (markedTo0 ∷ [])
+
+abbrev pub gave-up-is : LockState
+gave-up-is = lock (owned Shared 0 1) (on0 firstAgent) holding0 (markedTo0 ∷ plain (Release (client 4)) ToDecider ∷ [])
+
+-- from D8, who queues gives up: its RELEASE takes it off the queue, and the agent stays
+abbrev unqueued-is : LockState
+unqueued-is = lock (owned Exclusive 0 0) (on0 (agent Exclusive (0 ∷ []) 0)) (status 0 (Holding Exclusive) others) []
+
+-- who asked for a free lock gives up: its RELEASE stays with the decider as long as its ACQUIRE is under way,
+abbrev early-is : LockState
+early-is = lock unowned nowhere others (plain (Acquire (client 0) Exclusive false) ToDecider ∷ plain (Release (client 0)) ToDecider ∷ [])
+
+-- and the GRANT finds it idle: it is listed, and holds nothing
+abbrev idle-listed-is : LockState
+idle-listed-is = lock (owned Exclusive 0 0) (on0 (agent Exclusive (0 ∷ []) 0)) others (plain (Release (client 0)) ToDecider ∷ [])
+
+-- by hand: a GRANT comes to who has the note
+abbrev noted-granted : LockState
+noted-granted = lock (owned Shared 0 1) (on0 firstAgent) (lostBy 4 holding0) (grantTo1 ∷ [])
+
+abbrev note-dropped-is : LockState
+note-dropped-is = lock (owned Shared 0 1) (on0 firstAgent) (status 4 (Holding Shared) holding0) []
+
+-- by hand: an exclusive GRANT without agent, and it is lost
+abbrev alone-granted : LockState
+alone-granted = lock (owned Exclusive 0 0) nowhere (waiting4 Exclusive others) (plain (Grant (client 4) Exclusive) (ToMachine (machine 1)) ∷ [])
+
+abbrev alone-lost : LockState
+alone-lost = lock (owned Exclusive 0 0) nowhere (set others 4 (record { status = Waiting Exclusive; lost = true })) []
+
+-- by hand: a full wire at a free lock, and 1/0 waits
+abbrev full-is : LockState
+full-is = lock unowned nowhere (waiting4 Shared others) (replicate 49 (plain (Release (client 0)) ToDecider))
+
+-- 1/0's RELEASE comes to machine 0 ahead of 0/0's agent and goes back; 0/0 holds and releases, and the RELEASE comes to the decider of a free lock
+abbrev to-circled : List Call
+to-circled =
+    acquires0 0 0 2 ∷ delivers0 0 ∷ acquires0 1 0 2 ∷ givesUp0 1 0 ∷ delivers0 2 ∷ delivers0 2 ∷ delivers0 0 ∷ releases0 0 0 ∷ delivers0 2 ∷ delivers0 1 ∷ []
+
+abbrev early-circled-is : LockState
+early-circled-is =
+    lock unowned nowhere others (plain (Acquire (client 4) Exclusive false) ToDecider ∷ circled 1 (plain (Release (client 4)) ToDecider) ∷ [])
+
+-- from D12, b gives up and is taken off the queue: c stays where it stood, and 1/1, which asks then, holds before it
+abbrev passed-over-is : LockState
+passed-over-is = settled-on 1 (queue (reads 12 ∷ []) (agent Shared (5 ∷ 4 ∷ []) 0)) (status 5 (Holding Shared) (three (Holding Shared) Idle (Waiting Shared)))
+
+-- nothing is under way, 0/0 holds, and 1/0 and 2/0 have the note; and 0/0 is gone
+abbrev two-noted : List ClientState → LockState
+two-noted cs = lock (owned Shared 0 2) (on0 (agent Shared (8 ∷ 4 ∷ 0 ∷ []) 2)) (lostBy 8 (lostBy 4 cs)) []
+
 -- ---- the list, and the theorem
 pub data Name : Type 0 where
   D1 D1-arrived D1-drained D2 D3 D3-rejected D4 D5 D6 D7 D8-queued D8 D9 D9-agent D10 : Name
@@ -342,6 +411,9 @@ pub data Name : Type 0 where
   D3-told D5-told D6-told D8-told : Name
   writer-noted reader-sent-on reader-queued writer-served reader-passes writer-told bit-cleared marked-joins : Name
   D6-again count-stays copy-afresh D6-numbered D6-again-numbered request-numbered copy-numbered : Name
+  lost-noted lost-refused gave-up unwaiting lost-drained lost-granted unqueued unqueued-told early early-again idle-listed idle-drained early-numbered : Name
+  lost-elsewhere lost-agent lost-idle lost-exclusive note-dropped no-room vacant-unqueued : Name
+  early-circled early-circled-numbered releases-first lowest-first passed-over : Name
 
 abbrev pub scenarios : Name → Scenario
 scenarios D1 = from freshLock (acquires0 0 0 3 ∷ delivers0 0 ∷ []) (0 ∷ 0 ∷ []) d1
@@ -402,12 +474,46 @@ scenarios D6-numbered = numbered d1-held to-D6 (0 ∷ 1 ∷ [])
 scenarios D6-again-numbered = numbered d1-held (to-D6 ++ (circles ++ circles)) (0 ∷ 3 ∷ [])
 scenarios request-numbered = numbered freshLock before-copy (1 ∷ 0 ∷ [])
 scenarios copy-numbered = numbered freshLock (before-copy ++ (delivers0 0 ∷ [])) (0 ∷ 0 ∷ 0 ∷ [])
+-- lost grants and giving up
+scenarios lost-noted = from d2 (loses0 0 ∷ []) (0 ∷ []) lost-noted-is
+-- a marked ACQUIRE cannot be lost, nor what is not there; who does not wait cannot give up
+scenarios lost-refused = from d2 (loses0 1 ∷ loses0 2 ∷ givesUp0 0 0 ∷ givesUp0 4 0 ∷ []) (18 ∷ 8 ∷ 17 ∷ 2 ∷ []) d2
+scenarios gave-up = from lost-noted-is (givesUp0 1 0 ∷ []) (0 ∷ []) gave-up-is
+scenarios unwaiting = from gave-up-is (givesUp0 1 0 ∷ acquires0 1 0 3 ∷ []) (17 ∷ 6 ∷ []) gave-up-is
+-- the mark, 0/0's release, 1/0 gives up, its RELEASE twice, and the FREE
+scenarios lost-drained = drained lost-noted-is 0 6 freshLock
+scenarios lost-granted =
+    granted lost-noted-is (delivers0 0 ∷ releases0 0 0 ∷ givesUp0 1 0 ∷ delivers0 0 ∷ delivers0 0 ∷ delivers0 0 ∷ []) (0 ∷ 4 ∷ []) (0 ∷ 0 ∷ [])
+scenarios unqueued = from d8-queued (givesUp0 1 0 ∷ delivers0 0 ∷ delivers0 0 ∷ []) (replicate 3 0) unqueued-is
+scenarios unqueued-told = told d8-queued (givesUp0 1 0 ∷ delivers0 0 ∷ delivers0 0 ∷ []) (None ∷ None ∷ Taken ∷ [])
+scenarios early = from freshLock (acquires0 0 0 2 ∷ givesUp0 0 0 ∷ []) (0 ∷ 0 ∷ []) early-is
+scenarios early-again = from early-is (delivers0 1 ∷ delivers0 1 ∷ []) (0 ∷ 0 ∷ []) early-is
+scenarios idle-listed = from early-is (delivers0 0 ∷ delivers0 1 ∷ []) (0 ∷ 0 ∷ []) idle-listed-is
+scenarios idle-drained = drained idle-listed-is 0 3 freshLock
+scenarios early-numbered = numbered freshLock (acquires0 0 0 2 ∷ givesUp0 0 0 ∷ delivers0 1 ∷ delivers0 1 ∷ []) (0 ∷ 0 ∷ [])
+-- a GRANT to the decider cannot be lost, nor one with an agent; one for an idle client leaves no note
+scenarios lost-elsewhere = from f-granted (loses0 0 ∷ []) (18 ∷ []) f-granted
+scenarios lost-agent = from d1 (loses0 0 ∷ []) (18 ∷ []) d1
+scenarios lost-idle = from d2 (givesUp0 1 0 ∷ loses0 0 ∷ []) (0 ∷ 0 ∷ []) gave-up-is
+scenarios lost-exclusive = from alone-granted (loses0 0 ∷ []) (0 ∷ []) alone-lost
+-- there is no room for one more RELEASE, but one that is delivered goes to the wire's end
+scenarios no-room = from full-is (givesUp0 1 0 ∷ delivers0 0 ∷ []) (10 ∷ 0 ∷ []) full-is
+scenarios note-dropped = from noted-granted (delivers0 0 ∷ []) (0 ∷ []) note-dropped-is
+-- an agent that lists nobody stays where it is, though its queue is empty again
+scenarios vacant-unqueued = from d4 (acquires0 0 1 2 ∷ givesUp0 0 1 ∷ delivers0 2 ∷ delivers0 2 ∷ []) (replicate 4 0) d4
+scenarios passed-over = from d12 (givesUp0 2 0 ∷ delivers0 0 ∷ delivers0 0 ∷ acquires0 1 1 3 ∷ []) (replicate 4 0) passed-over-is
+scenarios early-circled = from freshLock to-circled (replicate 10 0) early-circled-is
+scenarios early-circled-numbered = numbered freshLock to-circled (0 ∷ 1 ∷ [])
+scenarios releases-first = next (two-noted holding0) (releases0 0 0)
+scenarios lowest-first = next (two-noted others) (givesUp0 1 0)
 
 pub scenarios-hold : (n : Name) → Holds (scenarios n)
-unfolding run perform acquire release deliver unless settled first acquireStep releaseStep deliverStep takes finish delivers
+unfolding lose giveUp giveUpStep loseStep drops canBeLost clientGivesUp grantIsLost takenOff giveUpFirst
+    run perform acquire release deliver unless settled first acquireStep releaseStep deliverStep takes finish delivers
     handledAt handles drain drainUnless drainEnded drainage nextOf releaseFirst
+    clientFormed
     wellFormed lockFormed wireFormed packetFormed messageFormed slotFormed agentFormed isBlankAgent isBlankPacket isBlankWaiter queueFormed distinct shaped
-    atDecider decides decidesAcquire decidesFree decidesGrant toOwner atMachine arrives acquireArrives releaseArrives freeArrives marked unmarked
+    atDecider decides decidesAcquire decidesRelease decidesFree decidesGrant toOwner atMachine arrives acquireArrives releaseArrives freeArrives marked unmarked
     grantArrives rejectedGrantArrives mayShare mayJoin installs admitted staying joined clientAcquires clientAsks clientReleases staysIf handOver
     padded removed queueOf waiters noAgent blankPacket wireOf packets freshLock watch sees numbersOf numbersAfter sameNumbers
 scenarios-hold D1 = (refl, refl)
@@ -453,3 +559,28 @@ scenarios-hold D6-numbered = refl
 scenarios-hold D6-again-numbered = refl
 scenarios-hold request-numbered = refl
 scenarios-hold copy-numbered = refl
+scenarios-hold lost-noted = (refl, refl)
+scenarios-hold lost-refused = (refl, refl)
+scenarios-hold gave-up = (refl, refl)
+scenarios-hold unwaiting = (refl, refl)
+scenarios-hold lost-drained = (refl, refl, refl)
+scenarios-hold lost-granted = refl
+scenarios-hold unqueued = (refl, refl)
+scenarios-hold unqueued-told = refl
+scenarios-hold early = (refl, refl)
+scenarios-hold early-again = (refl, refl)
+scenarios-hold idle-listed = (refl, refl)
+scenarios-hold idle-drained = (refl, refl, refl)
+scenarios-hold early-numbered = refl
+scenarios-hold lost-elsewhere = (refl, refl)
+scenarios-hold lost-agent = (refl, refl)
+scenarios-hold lost-idle = (refl, refl)
+scenarios-hold lost-exclusive = (refl, refl)
+scenarios-hold no-room = (refl, refl)
+scenarios-hold note-dropped = (refl, refl)
+scenarios-hold vacant-unqueued = (refl, refl)
+scenarios-hold passed-over = (refl, refl)
+scenarios-hold early-circled = (refl, refl)
+scenarios-hold early-circled-numbered = refl
+scenarios-hold releases-first = refl
+scenarios-hold lowest-first = refl

@@ -1,7 +1,7 @@
 -- What a step must come to, packets sent on, packets that never are on the wire, and what a yes of the rules' two tests says.
 use Rattle.theorems.specs.Names.{_≡_, refl, MachineId, ClientId, Mode, Exclusive, Shared, Owner, Unowned, Agent, Address, ToDecider, ToMachine, Message}
-use Rattle.theorems.specs.Names.{Free, Acquire, Grant, Release, Packet, Site, LockState, Bool, true, false, and-false, false≢true, List, arith, pick}
-use Rattle.theorems.specs.Names.{machines, isShared, Verdict, cannot-place, does, mayJoin, ownedShared, mayShare, and-left, and-right, [], _∷_, _<_}
+use Rattle.theorems.specs.Names.{Free, Acquire, Grant, Packet, Site, LockState, Bool, true, false, and-false, false≢true, List, arith, pick, machines}
+use Rattle.theorems.specs.Names.{isShared, Verdict, cannot-place, does, mayJoin, ownedShared, mayShare, and-left, and-right, [], _∷_, _<_}
 use Rattle.laws.specs.Tests.{pick-by}
 use Rattle.theorems.specs.Weights.{farP, fits, fitsP, misfitP}
 use Rattle.theorems.specs.Invariant.{Inv}
@@ -56,14 +56,6 @@ module _ (x : Bool) (t : Address) (b : Bool) (a : Agent) where
       go : (x : Bool) → fits o x t b a (Acquire c n true) ≡ false
       go true = simp and-false
       go false = rw e (simp and-false)
-
-  pub no-release : (c : ClientId) → fits Unowned x t b a (Release c) ≡ false
-  unfolding fits
-  no-release c = go x
-    where
-      go : (x : Bool) → fits Unowned x t b a (Release c) ≡ false
-      go true = simp and-false
-      go false = simp and-false
 
 pub no-free : (o : Owner) (t : Address) (b : Bool) (a : Agent) → fits o false t b a Free ≡ false
 unfolding fits

@@ -1,8 +1,8 @@
--- What is proved, in Theorems, Drains, Listings, Counts, Reasons, FirstCome, Handlings, Preferences, WritersFirst, Naming and Circling: of the numbers of
--- answers, and of every list of calls on a fresh cluster, made with any preference n, as given: one above 1 is refused, and the cluster beside that prefers
--- readers. Past the last, a lock reads as fresh and a client as idle.
+-- What is proved, in Theorems, Drains, Listings, Counts, Reasons, FirstCome, Handlings, Preferences, WritersFirst, Naming, Circling and GivingUp: of the
+-- numbers of answers, and of every list of calls on a fresh cluster, made with any preference n, as given: one above 1 is refused, and the cluster beside that
+-- prefers readers. Past the last, a lock reads as fresh and a client as idle.
 use Rattle.model.specs.Drain.{allowance, Quiescent, drainCalls, drain}
-use Rattle.model.specs.Trace.{isAccepted, grantsIn}
+use Rattle.model.specs.Trace.{isAccepted, grantsIn, givenUpIn}
 use Rattle.model.specs.Refusals.{first}
 use Rattle.model.specs.declared.Reading.the-variants.{Record}
 use Rattle.model.specs.Transcripts.{short, readRecord, replayTests, replayed, replay, callsOf}
@@ -16,7 +16,8 @@ use Rattle.theorems.specs.Names.{reasonIn, reason, reasonNumber, reasonV
 use Rattle.theorems.specs.Names.{removed, grantOf, acquire, release, deliver, preferences, prefersWriters, freshWith, writerIn, Shared, ToDecider}
 use Rattle.theorems.specs.Names.{Message, Free, Acquire, Release, Handling, None, NoAgent, NotHolder, Taken, sentBack, lists, handlingsOf, lastTold}
 use Rattle.theorems.specs.Names.{wireOf, Site, siteOf, mayShare, mayJoin, noting, grantsFirst, grantsWith, passesOn, newAgent, changed, Found, Nowhere}
-use Rattle.theorems.specs.Names.{At, any, IsFirst, min, getD, historyAfter}
+use Rattle.theorems.specs.Names.{At, any, IsFirst, min, getD, historyAfter, noteOf, lostAfter, queues, unqueuing, giveUp, lose, set, idle}
+use Rattle.theorems.specs.Names.{ClientState, someAgent, Idle, isWaiting, plain, installed, admitted}
 use lib.ListN.{take}
 
 -- Different answers have different numbers, and 0 is the number of the accepted alone.
@@ -28,9 +29,12 @@ pub record Numbered : Type 0 where
 abbrev pub StaysFormed : ℕ → List Call → Type 0
 StaysFormed n cs = wellFormed (after n cs) ≡ true
 
--- No call of the list gets a number above 8: refusals from 9 on do not occur.
+-- No call of the list gets another number than 0 to 8, 17 and 18: the other refusals do not occur.
+abbrev pub fromTests : Answer → Bool
+fromTests a = leb (number a) 8 || (eqb (number a) 17 || eqb (number a) 18)
+
 abbrev pub NeverRefusedInside : ℕ → List Call → Type 0
-NeverRefusedInside n cs = all (λ (a : Answer). leb (number a) 8) (answersOf cs (fresh n .cluster)) ≡ true
+NeverRefusedInside n cs = all fromTests (answersOf cs (fresh n .cluster)) ≡ true
 
 -- No wire holds more packets than it has slots.
 abbrev pub WireBounded : ℕ → List Call → Type 0
@@ -40,7 +44,7 @@ WireBounded n cs = (l : LockId) → length (packets (lockIn (after n cs) l .wire
 abbrev pub OthersUntouched : ℕ → List Call → Type 0
 OthersUntouched n cs = (a : Call) (l : LockId) → (l .0 ≡ lockOf a .0 → ⊥) → lockIn (perform a (after n cs) .cluster) l ≡ lockIn (after n cs) l
 
--- An exclusive holder is the only holder: by the statuses,
+-- An exclusive holder is the only holder, by the statuses.
 abbrev pub Exclusion : ℕ → List Call → Type 0
 Exclusion n cs =
     (l : LockId) (c d : ClientId) (m : Mode) → (c .0 ≡ d .0 → ⊥)
@@ -50,18 +54,22 @@ Exclusion n cs =
 abbrev pub TraceAgrees : ℕ → List Call → Type 0
 TraceAgrees n cs = (l : LockId) (c : ClientId) → statusOf (lockIn (after n cs) l) c ≡ phaseAfter n l c cs
 
--- and so by the trace.
+-- Every note of a lost GRANT is one in the trace, too.
+abbrev pub NotesAgree : ℕ → List Call → Type 0
+NotesAgree n cs = (l : LockId) (c : ClientId) → noteOf (lockIn (after n cs) l) c ≡ lostAfter n l c cs
+
+-- And so by the trace.
 abbrev pub ExclusionOfTrace : ℕ → List Call → Type 0
 ExclusionOfTrace n cs =
     (l : LockId) (c d : ClientId) (m : Mode) → (c .0 ≡ d .0 → ⊥) → phaseAfter n l c cs ≡ Holding Exclusive → phaseAfter n l d cs ≡ Holding m → ⊥
 
--- The steps that a drain takes at most, as proved: 12 for each client and 2 for the agent, and 4 for each two clients, since the RELEASE of one can send the
+-- The steps that a drain takes at most, as proved: 14 for each client and 2 for the agent, and 4 for each two clients, since the RELEASE of one can send the
 -- requests of the other round again.
 abbrev pub provedBound : ℕ
-provedBound = 12 * clients + 2 + 2 * clients * (clients - 1)
+provedBound = 14 * clients + 2 + 2 * clients * (clients - 1)
 
--- A drain of the lock l on the cluster x, in which each client's phase is given.
-pub record Drains (x : Cluster) (l : LockId) (phase : ClientId → Status) : Type 0 where
+-- A drain of the lock l on the cluster x, in which each client's phase is given, and whether its grant was lost.
+pub record Drains (x : Cluster) (l : LockId) (phase : ClientId → Status) (lost : ClientId → Bool) : Type 0 where
   -- It answers 0, and each of its calls is accepted; they alone make its cluster, and its count is theirs.
   pub answered : number (drain x l .answer) ≡ 0
   pub counted : drain x l .count ≡ length (drainCalls l x)
@@ -74,14 +82,18 @@ pub record Drains (x : Cluster) (l : LockId) (phase : ClientId → Status) : Typ
   pub quiescent : Quiescent l (lockIn (drain x l .cluster) l)
   pub fresh : lockIn (drain x l .cluster) l ≡ freshLock
   pub others : (j : LockId) → (j .0 ≡ l .0 → ⊥) → lockIn (drain x l .cluster) j ≡ lockIn x j
-  -- Each client that waited sees one grant during it.
-  pub granted : (c : ClientId) (m : Mode) → phase c ≡ Waiting m → grantsIn l c (drainCalls l x) x (phase c) ≡ 1
+  -- Each client that waited sees one grant during it, and does not give up; or it had lost its own, sees none, and gives up once.
+  pub granted : (c : ClientId) (m : Mode) → phase c ≡ Waiting m → lost c ≡ false
+      → (grantsIn l c (drainCalls l x) x (phase c) (lost c) ≡ 1) × (givenUpIn l c (drainCalls l x) x (phase c) (lost c) ≡ 0)
+  pub gave-up : (c : ClientId) (m : Mode) → phase c ≡ Waiting m → lost c ≡ true
+      → (grantsIn l c (drainCalls l x) x (phase c) (lost c) ≡ 0) × (givenUpIn l c (drainCalls l x) x (phase c) (lost c) ≡ 1)
 
--- Demand 3: the trace gives the statuses, it shows exclusion, and each lock drains.
+-- Demand 3: the trace gives the statuses and the notes, it shows exclusion, and each lock drains.
 pub record Demand3 (n : ℕ) (cs : List Call) : Type 0 where
   pub trace : TraceAgrees n cs
+  pub notes : NotesAgree n cs
   pub exclusion : ExclusionOfTrace n cs
-  pub drains : (l : LockId) → l .0 < locks → Drains (after n cs) l (λ c. phaseAfter n l c cs)
+  pub drains : (l : LockId) → l .0 < locks → Drains (after n cs) l (λ c. phaseAfter n l c cs) (λ c. lostAfter n l c cs)
 
 -- The rows of a list of calls on x, in their order: what each call is answered, and the packets then on its lock's wire.
 abbrev pub rowsOf : List Call → Cluster → List Row
@@ -129,7 +141,8 @@ pub record ListsAll (x : Cluster) (bytes : List ℕ) : Type 0 where
 abbrev pub isPlaced : Answer → Bool
 isPlaced a = not (eqb (number a) 9 || eqb (number a) 10)
 
--- Request 1 of document 02: thirty-three places are enough, and why. A lock's state s after a list, in counts that can be made on the screen.
+-- Request 1 of document 02: the wire's places are enough, and why: thirty-three, and forty-nine since request 8. A lock's state s after a list, in counts
+-- that can be made on the screen.
 pub record Enough (n : ℕ) (cs : List Call) (l : LockId) (s : LockState) : Type 0 where
   -- There is no agent at a free lock, and exactly one at any other.
   pub free : s .decider .owner ≡ Unowned → agentsIn s ≡ 0
@@ -140,16 +153,16 @@ pub record Enough (n : ℕ) (cs : List Call) (l : LockId) (s : LockState) : Type
   pub in-packet : (i : ℕ) → i < length (packets (s .wire)) → packetAt s i .carried .present ≡ true
       → uncounted (s .decider) (packetAt s i .carried .agent) ≡ marksIn s
   pub unshared : ownedShared (s .decider .owner) ≡ false → marksIn s ≡ 0
-  -- Two packets at most name a client, and one at most is a FREE, which names none: with sixteen clients that makes 33.
-  pub named : (c : ClientId) → count (names c) (packets (s .wire)) ≤ 2
+  -- Three packets at most name a client, and one at most is a FREE, which names none: with sixteen clients that makes 49.
+  pub named : (c : ClientId) → count (names c) (packets (s .wire)) ≤ 3
   pub frees : count (λ (p : Packet). isFree (p .message)) (packets (s .wire)) ≤ 1
   pub wire : length (packets (s .wire)) ≤ wireCapacity
   -- No call of the list is answered 9 or 10, nor is a drain after it, nor a step of that drain.
   pub calls : all isPlaced (answersOf cs (fresh n .cluster)) ≡ true
   pub drains : l .0 < locks → all isPlaced (drain (after n cs) l .answer ∷ answersOf (drainCalls l (after n cs)) (after n cs)) ≡ true
 
-abbrev pub ThirtyThree : ℕ → List Call → Type 0
-ThirtyThree n cs = (l : LockId) → Enough n cs l (lockIn (after n cs) l)
+abbrev pub EnoughPlaces : ℕ → List Call → Type 0
+EnoughPlaces n cs = (l : LockId) → Enough n cs l (lockIn (after n cs) l)
 
 -- Eight bits do for an incarnation: a wire never has as many as 256 marks, so a carried agent's is the decider's exactly where it has none.
 pub record IncarnationSound (n : ℕ) (cs : List Call) : Type 0 where
@@ -210,10 +223,16 @@ isRequest (Release c) = true
 isRequest (Grant c m) = false
 isRequest Free = false
 
+-- the lock's state s, with just its clients and its wire written; and with an agent and the wire
+abbrev pub written : LockState → List ClientState → List Packet → LockState
+written s cs ps = record { decider = s .decider; agents = s .agents; clients = cs; wire = wireOf ps }
+
+abbrev pub withAgent : LockState → MachineId → Agent → List Packet → LockState
+withAgent s k a ps = record { decider = s .decider; agents = set (s .agents) (k .0) (someAgent a); clients = s .clients; wire = wireOf ps }
+
 -- It went back: the same packet, now for the decider and counted once more, is the last on the wire, and nothing else has changed.
 abbrev pub WentBack : LockState → LockState → ℕ → Type 0
-WentBack s t i =
-    t ≡ record { decider = s .decider; agents = s .agents; clients = s .clients; wire = wireOf (removed (packets (s .wire)) i ++ sentBack (packetAt s i) ∷ []) }
+WentBack s t i = t ≡ written s (s .clients) (removed (packets (s .wire)) i ++ sentBack (packetAt s i) ∷ [])
 
 -- It did not: no request was sent.
 pub record Stayed (s t : LockState) (i : ℕ) : Type 0 where
@@ -221,12 +240,18 @@ pub record Stayed (s t : LockState) (i : ℕ) : Type 0 where
   pub wire : packets (t .wire) ≡ removed (packets (s .wire)) i ++ sent
   pub answers : all (λ (p : Packet). not (isRequest (p .message))) sent ≡ true
 
+-- Its client, which gave up, was taken off the queue: the agent stays, nothing is sent, and nothing else has changed (request 8 of document 02).
+abbrev pub Unqueued : LockState → LockState → ℕ → MachineId → ClientId → Type 0
+Unqueued s t i k c = t ≡ withAgent s k (unqueuing (agentOn s k .agent) c) (removed (packets (s .wire)) i)
+
 -- Its message, and the handling that is told: each has a cause of its own.
 pub data Handled (s t : LockState) (i : ℕ) (k : MachineId) : Message → Handling → Type 0 where
   no-agent : {m : Message} → isRequest m ≡ true → agentOn s k .present ≡ false → WentBack s t i → Handled s t i k m NoAgent
-  not-holder : {c : ClientId} → agentOn s k .present ≡ true → lists (agentOn s k) c ≡ false → WentBack s t i → Handled s t i k (Release c) NotHolder
+  not-holder : {c : ClientId} → agentOn s k .present ≡ true → lists (agentOn s k) c ≡ false → queues (agentOn s k) c ≡ false → WentBack s t i
+      → Handled s t i k (Release c) NotHolder
   acquire-taken : {c : ClientId} {m : Mode} {g : Bool} → agentOn s k .present ≡ true → Stayed s t i → Handled s t i k (Acquire c m g) Taken
   release-taken : {c : ClientId} → lists (agentOn s k) c ≡ true → Stayed s t i → Handled s t i k (Release c) Taken
+  release-unqueued : {c : ClientId} → lists (agentOn s k) c ≡ false → queues (agentOn s k) c ≡ true → Unqueued s t i k c → Handled s t i k (Release c) Taken
   no-request : {m : Message} → isRequest m ≡ false → Handled s t i k m None
 
 -- The last of a list of handlings that is one, or none.
@@ -249,6 +274,8 @@ pub record TellsWhy (x : Cluster) : Type 0 where
   pub at-decider : (l : LockId) (i : ℕ) → packetAt (lockIn x l) i .to ≡ ToDecider → deliver x l i .handling ≡ None
   pub acquires : (l : LockId) (k : MachineId) (t : TaskId) (m : ℕ) → acquire x l k t m .handling ≡ None
   pub releases : (l : LockId) (k : MachineId) (t : TaskId) → release x l k t .handling ≡ None
+  pub losses : (l : LockId) (i : ℕ) → lose x l i .handling ≡ None
+  pub givings-up : (l : LockId) (k : MachineId) (t : TaskId) → giveUp x l k t .handling ≡ None
   pub refused : (c : Call) (r : Refusal) → perform c x .answer ≡ Refused r → perform c x .handling ≡ None
   pub drains : (l : LockId) → drain x l .answer ≡ Accepted → Last (handlingsOf (drainCalls l x) x) (drain x l .handling)
   pub drain-refused : (l : LockId) (r : Refusal) → drain x l .answer ≡ Refused r → drain x l .handling ≡ None
@@ -326,3 +353,51 @@ pub record Circled (n : ℕ) (cs : List Call) (l : LockId) : Type 0 where
 
 abbrev pub HowOften : ℕ → List Call → Type 0
 HowOften n cs = (l : LockId) → Circled n cs l
+
+-- Request 8 of document 02: lost grants and giving up. On any cluster, made by hand or not. What can be lost is a GRANT for c without agent, under way to k.
+pub record CanBeLost (p : Packet) (k : MachineId) (c : ClientId) (m : Mode) : Type 0 where
+  pub under-way : p .to ≡ ToMachine k
+  pub grant : p .message ≡ Grant c m
+  pub alone : p .carried .present ≡ false
+
+-- Such a packet is lost, and no other: it is off the wire, and if its client waits that is noted. Nothing else has changed.
+pub record Loses (x : Cluster) (l : LockId) (i : ℕ) : Type 0 where
+  pub only : lose x l i .answer ≡ Accepted → (k : MachineId) × ((c : ClientId) × ((m : Mode) × CanBeLost (packetAt (lockIn x l) i) k c m))
+  pub always : wellFormed x ≡ true → l .0 < locks → i < length (packets (lockIn x l .wire)) → (k : MachineId) (c : ClientId) (m : Mode)
+      → CanBeLost (packetAt (lockIn x l) i) k c m → lose x l i .answer ≡ Accepted
+  pub noted : (c : ClientId) (m : Mode) → packetAt (lockIn x l) i .message ≡ Grant c m → lose x l i .answer ≡ Accepted
+      → lockIn (lose x l i .cluster) l ≡ written (lockIn x l)
+      (set (lockIn x l .clients) (c .0) (record { status = statusOf (lockIn x l) c; lost = isWaiting (statusOf (lockIn x l) c) }))
+      (removed (packets (lockIn x l .wire)) i)
+
+-- Who waits gives up where the wire has room, and nobody else: it is idle, without a note, and its RELEASE is under way. Nothing else has changed.
+pub record GivesUp (x : Cluster) (l : LockId) (k : MachineId) (t : TaskId) : Type 0 where
+  pub only : giveUp x l k t .answer ≡ Accepted → (m : Mode) × (statusOf (lockIn x l) (clientOf k t) ≡ Waiting m)
+  pub always : wellFormed x ≡ true → l .0 < locks → k .0 < machines → t .0 < tasks → length (packets (lockIn x l .wire)) < wireCapacity
+      → (m : Mode) → statusOf (lockIn x l) (clientOf k t) ≡ Waiting m → giveUp x l k t .answer ≡ Accepted
+  pub gone : giveUp x l k t .answer ≡ Accepted
+      → lockIn (giveUp x l k t .cluster) l ≡ written (lockIn x l) (set (lockIn x l .clients) (clientOf k t .0) idle)
+      (packets (lockIn x l .wire) ++ plain (Release (clientOf k t)) ToDecider ∷ [])
+
+-- What is left of who gave up. A GRANT that comes to it leaves it idle; the agent inside is installed all the same, and lists it. s and t are the lock's states
+-- before and after.
+pub record StaysIdle (s t : LockState) (i : ℕ) (k : MachineId) (c : ClientId) (m : Mode) : Type 0 where
+  pub told : packetAt s i .carried .present ≡ false → t ≡ written s (s .clients) (removed (packets (s .wire)) i)
+  pub installed : packetAt s i .carried .present ≡ true
+      → t ≡ withAgent s k (installed m c (packetAt s i .carried .agent))
+      (removed (packets (s .wire)) i ++ map grantOf (admitted m (waiters (packetAt s i .carried .agent .queue))))
+
+-- Its RELEASE that comes to a free decider is taken in any well-formed cluster: it is the last on the wire then, and nothing else has changed.
+pub record GoesRound (x : Cluster) (l : LockId) (i : ℕ) : Type 0 where
+  pub always : wellFormed x ≡ true → l .0 < locks → i < length (packets (lockIn x l .wire)) → deliver x l i .answer ≡ Accepted
+  pub last : deliver x l i .answer ≡ Accepted
+      → lockIn (deliver x l i .cluster) l ≡ written (lockIn x l) (lockIn x l .clients) (removed (packets (lockIn x l .wire)) i ++ packetAt (lockIn x l) i ∷ [])
+
+pub record LosesAndGivesUp (x : Cluster) (l : LockId) : Type 0 where
+  pub loses : (i : ℕ) → Loses x l i
+  pub gives-up : (k : MachineId) (t : TaskId) → GivesUp x l k t
+  pub stays-idle : (i : ℕ) (k : MachineId) (c : ClientId) (m : Mode) → packetAt (lockIn x l) i .to ≡ ToMachine k → packetAt (lockIn x l) i .message ≡ Grant c m
+      → packetAt (lockIn x l) i .rejected ≡ false → statusOf (lockIn x l) c ≡ Idle → deliver x l i .answer ≡ Accepted
+      → StaysIdle (lockIn x l) (lockIn (deliver x l i .cluster) l) i k c m
+  pub goes-round : (i : ℕ) (c : ClientId) → lockIn x l .decider .owner ≡ Unowned → packetAt (lockIn x l) i .to ≡ ToDecider
+      → packetAt (lockIn x l) i .message ≡ Release c → GoesRound x l i

@@ -1,9 +1,10 @@
 -- Every step that a call makes is accepted and keeps the invariant: no refusal 9, no refusal 10.
-use Rattle.theorems.specs.Names.{MachineId, ClientId, Mode, Address, ToDecider, ToMachine, Packet, Idle, Holding, LockState, Accepted, Stepped, _≡_, refl}
-use Rattle.theorems.specs.Names.{ap, true, false, List, [], _∷_, _++_, ℕ, _+_, _<_, arith, length, length-append, leb, ltb-true, le-leb, any}
+use Rattle.theorems.specs.Names.{MachineId, ClientId, Mode, Address, ToDecider, ToMachine, Packet, Idle, Holding, LockState, Accepted, Stepped, _≡_}
+use Rattle.theorems.specs.Names.{refl, ap, true, false, List, [], _∷_, _++_, ℕ, _+_, _<_, arith, length, length-append, leb, ltb-true, le-leb, any}
 use Rattle.theorems.specs.Names.{removed, agentOn, statusOf, blankPacket, packets, Site, siteOf, Verdict, cannot-place, does, apply, finish, atDecider}
 use Rattle.theorems.specs.Names.{atMachine, names, machineAt, clientNamed, packetAt, delivers, acquireStep, releaseStep, takes, deliverStep, packets-of}
-use Rattle.theorems.specs.Names.{machines, clients, wireCapacity, Bool, pick, resent}
+use Rattle.theorems.specs.Names.{machines, clients, wireCapacity, Bool, pick, resent, Message, Grant, Acquire, Release, Free, Waiting, giveUpStep}
+use Rattle.theorems.specs.Names.{loseStep, drops, canBeLost, grantIsLost, inParts, false≢true, sym, _∙_, and-false, not}
 use Rattle.theorems.specs.Tally.{tally-at}
 use Rattle.theorems.specs.Weights.{farM, farA, farP}
 use Rattle.theorems.specs.Invariant.{Inv}
@@ -11,8 +12,8 @@ use Rattle.theorems.specs.InvariantStep.{Split, split-at}
 use Rattle.theorems.specs.Facts.{fit, wire-bound}
 use Rattle.theorems.specs.Sent.{Good}
 use Rattle.theorems.specs.AtDecider.{good-decides}
-use Rattle.theorems.specs.AtMachine.{good-arrives}
-use Rattle.theorems.specs.Clients.{names-none, good-client-acquires, good-client-releases}
+use Rattle.theorems.specs.AtMachine.{good-arrives, keep-lost}
+use Rattle.theorems.specs.Clients.{names-none, good-client-acquires, good-client-releases, good-client-gives-up}
 
 -- what the delivery of a packet comes to
 abbrev pub verdict : ℕ → LockState → Packet → Verdict
@@ -86,3 +87,32 @@ unfolding deliverStep takes
 sound-deliver pref r i j h =
     let g = sound _ _ (verdict pref r (packetAt r j)) (removed (packets (r .wire)) j) r (good-deliver pref r i j h) in
     record { taken = g .taken; inv = g .inv }
+
+pub sound-give-up : (pref : ℕ) (r : LockState) (i : Inv r) (c : ClientId) (m : Mode) → c .0 < clients → statusOf r c ≡ Waiting m → Sound (giveUpStep pref r c)
+unfolding giveUpStep
+sound-give-up pref r i c m cl wa = sound _ _ _ (packets (r .wire)) r (good-client-gives-up pref r i c cl m wa)
+
+-- a packet that can be lost
+good-drops : (pref : ℕ) (r : LockState) (rest : List Packet) (i : Inv r) (p : Packet) (m : Message) (t : Address) (x : Bool) → farA t ≡ 0
+    → canBeLost (inParts m t (p .rejected) x p) ≡ true → Split r (inParts m t (p .rejected) x p ∷ []) rest
+    → Good r (machineAt t) (clientNamed m) rest (grantIsLost (siteOf pref r (machineAt t) (clientNamed m)))
+unfolding canBeLost farM
+good-drops pref r rest i p (Grant c n) (ToMachine k) false f e sp =
+    keep-lost pref r rest i k (ltb-true (k .0) machines (fit _ f)) c n p (ToMachine k) (p .rejected) sp
+good-drops pref r rest i p (Grant c n) (ToMachine k) true f e sp = absurd (false≢true e)
+good-drops pref r rest i p (Grant c n) ToDecider x f e sp = absurd (false≢true (sym (and-false (not x)) ∙ e))
+good-drops pref r rest i p (Acquire c n g) t x f e sp = absurd (false≢true e)
+good-drops pref r rest i p (Release c) t x f e sp = absurd (false≢true e)
+good-drops pref r rest i p Free t x f e sp = absurd (false≢true e)
+
+pub good-lose : (pref : ℕ) (r : LockState) (i : Inv r) (j : ℕ) → j < length (packets (r .wire)) → canBeLost (packetAt r j) ≡ true
+    → Good r (machineAt (packetAt r j .to)) (clientNamed (packetAt r j .message)) (removed (packets (r .wire)) j)
+    (grantIsLost (siteOf pref r (machineAt (packetAt r j .to)) (clientNamed (packetAt r j .message))))
+good-lose pref r i j h e =
+    let p : Packet = packetAt r j in
+    good-drops pref r (removed (packets (r .wire)) j) i p (p .message) (p .to) (p .carried .present)
+    (omega (arith, i .reach, tally-at farP blankPacket (packets (r .wire)) j h)) e (split-at r j p h refl)
+
+pub sound-lose : (pref : ℕ) (r : LockState) (i : Inv r) (j : ℕ) → j < length (packets (r .wire)) → canBeLost (packetAt r j) ≡ true → Sound (loseStep pref r j)
+unfolding loseStep drops
+sound-lose pref r i j h e = sound _ _ _ (removed (packets (r .wire)) j) r (good-lose pref r i j h e)

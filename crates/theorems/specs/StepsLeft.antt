@@ -1,11 +1,11 @@
--- The most steps that a drain of a lock can still take: a number that falls at each of its steps (StepsFall), is at most 674, and 0 at a fresh lock. Each
+-- The most steps that a drain of a lock can still take: a number that falls at each of its steps (StepsFall), is at most 706, and 0 at a fresh lock. Each
 -- client counts for what it still has to do. Requests are ACQUIREs and RELEASEs; what they have to move turns on where the agent is.
-use Rattle.theorems.specs.Names.{Mode, Exclusive, Shared, Owner, Unowned, Owned, AgentSlot, Address, ToDecider, ToMachine, Message, Free, Acquire}
-use Rattle.theorems.specs.Names.{Grant, Release, Packet, Status, LockState, _≡_, refl, Bool, true, false, List, [], _∷_, ℕ, zero, suc, _+_, _-_, _*_}
-use Rattle.theorems.specs.Names.{_≤_, min, max, arith, eqb, pick, packets, bool-cases, clients, freshLock, wireOf, noAgent}
-use Rattle.theorems.specs.Tally.{flag, gate, tally, tally-add, sumTo, sum-le}
-use Rattle.theorems.specs.Weights.{statusAt, weight, one, askM, queuedS, markM, listedS, owedM, owedP, releaseM, releaseP, agentS, agentP, waitF}
-use Rattle.theorems.specs.Weights.{waitsF, holdF, idleF, ownedF, ownedAt}
+use Rattle.theorems.specs.Names.{Exclusive, Shared, Owner, Unowned, Owned, AgentSlot, Address, ToDecider, ToMachine, Message, Free, Acquire, Grant}
+use Rattle.theorems.specs.Names.{Release, Packet, Status, LockState, _≡_, refl, Bool, true, false, List, [], _∷_, ℕ, zero, suc, _+_, _-_, _*_, _≤_, min}
+use Rattle.theorems.specs.Names.{max, arith, eqb, pick, packets, bool-cases, clients, freshLock, wireOf, noAgent}
+use Rattle.theorems.specs.Tally.{flag, gate, tally, tally-add, tally-none, sumTo, sum-le}
+use Rattle.theorems.specs.Weights.{statusAt, weight, one, askM, queuedS, markM, listedS, owedM, owedP, releaseM, releaseP, agentS, agentP, waitsF}
+use Rattle.theorems.specs.Weights.{holdF, idleF, ownedF, ownedAt, waitingP, listedP}
 use Rattle.theorems.specs.Invariant.{Inv}
 use Rattle.theorems.specs.Facts.{hits, statuses, waits-are}
 use Rattle.theorems.specs.Statements.{provedBound}
@@ -103,8 +103,11 @@ abbrev pub costP : ℕ → Packet → ℕ
 costP d p = costM d (p .carried .present) (p .to) (p .message)
 
 -- a waiter in a queue, a holder in a list, a client that is not idle
+abbrev pub places : ℕ → ℕ → ℕ
+places queued listed = 4 * queued + 2 * listed
+
 abbrev pub standing : ℕ → ℕ → Status → ℕ
-standing queued listed st = 4 * queued + 2 * listed + 3 * (waitsF st + holdF st)
+standing queued listed st = places queued listed + 3 * (waitsF st + holdF st)
 
 abbrev pub queuedIn : ℕ → AgentSlot → ℕ
 queuedIn d x = queuedS d Exclusive x + queuedS d Shared x
@@ -178,65 +181,85 @@ askedP d p = askM d Exclusive (p .message) + askM d Shared (p .message)
 abbrev pub markedP : ℕ → Packet → ℕ
 markedP d p = markM d (p .message)
 
+-- a GRANT with the agent
+unfoldable pub bearsM : ℕ → Bool → Message → ℕ
+bearsM d x (Acquire c n g) = 0
+bearsM d true (Grant c n) = one d c
+bearsM d false (Grant c n) = 0
+bearsM d x (Release c) = 0
+bearsM d x Free = 0
+
+abbrev pub bearsP : ℕ → Packet → ℕ
+bearsP d p = bearsM d (p .carried .present) (p .message)
+
 -- how the counts of a message compare: ACQUIREs and RELEASEs with the others, and its cost with all of them
-pub record Compared (released acquired asked marked release owed cost : ℕ) : Type 0 where
+pub record Compared (released acquired asked marked release owed bears cost : ℕ) : Type 0 where
   pub same : released ≡ release
-  pub above : acquired + owed ≤ asked + marked + release
-  pub below : marked + release ≤ acquired + owed
+  pub whole : asked + marked + release ≡ acquired + owed + bears
   pub paid : cost + 2 * owed ≤ acquired + 4 * asked + 2 * marked + 3 * release
 
 compared : (d : ℕ) (x : Bool) (t : Address) (m : Message)
-    → Compared (flag (releases d m)) (flag (acquires d m)) (askM d Exclusive m + askM d Shared m) (markM d m) (releaseM d m) (owedM d x m) (costM d x t m)
-unfolding askM markM releaseM owedM costM one
-compared d x t (Acquire c n false) =
-    record { same = refl; above = omega (arith, hits d c n); below = omega arith; paid = omega (arith, hits d c n) }
-compared d x t (Acquire c n true) = record { same = refl; above = omega arith; below = omega arith; paid = omega arith }
-compared d true t (Grant c n) = record { same = refl; above = omega arith; below = omega arith; paid = omega (arith, hits d c n) }
-compared d false ToDecider (Grant c n) =
-    record { same = refl; above = omega (arith, hits d c n); below = omega arith; paid = omega (arith, hits d c n) }
-compared d false (ToMachine k) (Grant c n) =
-    record { same = refl; above = omega (arith, hits d c n); below = omega arith; paid = omega (arith, hits d c n) }
-compared d x t (Release c) = record { same = refl; above = omega arith; below = omega arith; paid = omega arith }
-compared d x t Free = record { same = refl; above = omega arith; below = omega arith; paid = omega arith }
+    → Compared (flag (releases d m)) (flag (acquires d m)) (askM d Exclusive m + askM d Shared m) (markM d m) (releaseM d m) (owedM d x m) (bearsM d x m)
+    (costM d x t m)
+unfolding askM markM releaseM owedM bearsM costM one
+compared d x t (Acquire c n false) = record { same = refl; whole = omega (arith, hits d c n); paid = omega (arith, hits d c n) }
+compared d x t (Acquire c n true) = record { same = refl; whole = omega arith; paid = omega arith }
+compared d true t (Grant c n) = record { same = refl; whole = omega (arith, hits d c n); paid = omega (arith, hits d c n) }
+compared d false ToDecider (Grant c n) = record { same = refl; whole = omega (arith, hits d c n); paid = omega (arith, hits d c n) }
+compared d false (ToMachine k) (Grant c n) = record { same = refl; whole = omega (arith, hits d c n); paid = omega (arith, hits d c n) }
+compared d x t (Release c) = record { same = refl; whole = omega arith; paid = omega arith }
+compared d x t Free = record { same = refl; whole = omega arith; paid = omega arith }
 
 pub compare : (d : ℕ) (ps : List Packet)
     → Compared (many (releases d) ps) (many (acquires d) ps) (tally (askedP d) ps) (tally (markedP d) ps) (tally (releaseP d) ps) (tally (owedP d) ps)
-    (tally (costP d) ps)
+    (tally (bearsP d) ps) (tally (costP d) ps)
 unfolding tally
-compare d [] = record { same = refl; above = omega arith; below = omega arith; paid = omega arith }
+compare d [] = record { same = refl; whole = refl; paid = omega arith }
 compare d (p ∷ ps) =
     let here = compared d (p .carried .present) (p .to) (p .message) in
     let rest = compare d ps in
     record {
       same = omega (arith, here .same, rest .same);
-      above = omega (arith, here .above, rest .above);
-      below = omega (arith, here .below, rest .below);
+      whole = omega (arith, here .whole, rest .whole);
       paid = omega (arith, here .paid, rest .paid);
     }
+
+-- where no agent is under way, no GRANT brings one
+pub bears-none : (d : ℕ) (ps : List Packet) → tally agentP ps ≡ 0 → tally (bearsP d) ps ≡ 0
+unfolding agentS
+bears-none d ps = tally-none agentP (bearsP d) (λ p e. go (p .carried .present) (p .message) e) ps
+  where
+    go : (x : Bool) (m : Message) → flag x ≡ 0 → bearsM d x m ≡ 0
+    go x (Acquire c n g) e = unfold bearsM in refl
+    go true (Grant c n) e = absurd (omega arith)
+    go false (Grant c n) e = unfold bearsM in refl
+    go x (Release c) e = unfold bearsM in refl
+    go x Free e = unfold bearsM in refl
 
 module _ (r : LockState) (i : Inv r) (d : ℕ) where
   abbrev ps : List Packet
   ps = packets (r .wire)
 
-  -- who waits and asks nowhere else is in a queue; who holds, or is owed a packet, is in a list or has a marked ACQUIRE
-  pub queued-is : tally (askedP d) ps + queued d r ≡ waitsF (statusAt r d)
+  -- what asks: by packets, and in queues
+  asking : tally (askedP d) ps + queued d r ≡ weight (waitingP d Exclusive) (queuedS d Exclusive) r + weight (waitingP d Shared) (queuedS d Shared) r
   unfolding weight
-  queued-is =
-      let by-mode : (m : Mode) → tally (λ p. askM d m (p .message)) ps + tally (λ p. queuedS d m (p .carried)) ps + tally (queuedS d m) (r .agents)
-      ≡ waitF m (statusAt r d) = λ m. omega (arith, i .waits d m, tally-add (λ p. askM d m (p .message)) (λ p. queuedS d m (p .carried)) ps) in
+  asking =
       omega (
         arith,
-        by-mode Exclusive,
-        by-mode Shared,
-        waits-are (statusAt r d),
+        tally-add (λ p. askM d Exclusive (p .message)) (λ p. queuedS d Exclusive (p .carried)) ps,
+        tally-add (λ p. askM d Shared (p .message)) (λ p. queuedS d Shared (p .carried)) ps,
         tally-add (λ p. askM d Exclusive (p .message)) (λ p. askM d Shared (p .message)) ps,
         tally-add (λ p. queuedS d Exclusive (p .carried)) (λ p. queuedS d Shared (p .carried)) ps,
         tally-add (queuedS d Exclusive) (queuedS d Shared) (r .agents),
       )
 
-  pub listed-is : tally (markedP d) ps + listed d r ≡ holdF (statusAt r d) + tally (owedP d) ps
+  listing : tally (markedP d) ps + listed d r ≡ weight (listedP d) (listedS d) r
   unfolding weight
-  listed-is = omega (arith, i .holds d, tally-add (markedP d) (λ p. listedS d (p .carried)) ps)
+  listing = omega (arith, tally-add (markedP d) (λ p. listedS d (p .carried)) ps)
+
+  -- it is present once, if not idle, or as long as its RELEASE is under way: by an ACQUIRE, a GRANT with the agent, in a queue or in a list
+  pub present-once : many (acquires d) ps + tally (bearsP d) ps + queued d r + listed d r + idleF (statusAt r d) ≡ 1 + many (releases d) ps
+  present-once = omega (arith, asking, listing, i .presence d, compare d ps)
 
   status-one : waitsF (statusAt r d) + holdF (statusAt r d) + idleF (statusAt r d) ≡ 1
   status-one = omega (arith, statuses (statusAt r d), waits-are (statusAt r d))
@@ -244,31 +267,20 @@ module _ (r : LockState) (i : Inv r) (d : ℕ) where
   releases-one : many (releases d) ps ≤ idleF (statusAt r d)
   releases-one = omega (arith, compare d ps .same, i .rels d)
 
-  -- at most one ACQUIRE; with a RELEASE beside it the client is idle
-  acquires-one : many (acquires d) ps ≤ waitsF (statusAt r d) + holdF (statusAt r d) + many (releases d) ps
-  acquires-one = omega (arith, compare d ps, queued-is, listed-is)
-
   pub one-each-way : (many (acquires d) ps ≤ 1) × (many (releases d) ps ≤ 1)
-  one-each-way = (omega (arith, acquires-one, releases-one, status-one), omega (arith, releases-one, status-one))
+  one-each-way = (omega (arith, present-once, releases-one), omega (arith, releases-one, status-one))
 
-  -- the client of a RELEASE is in a list, or else its ACQUIRE is on the wire
-  pub listed-or : many (releases d) ps ≤ many (acquires d) ps + listed d r
-  listed-or = omega (arith, compare d ps, listed-is)
-
-  pub not-both : 1 ≤ many (releases d) ps → many (acquires d) ps + listed d r ≤ 1
-  not-both h = omega (arith, h, compare d ps, queued-is, listed-is, releases-one, status-one)
-
-  share-most : share d r ≤ 12
+  share-most : share d r ≤ 14
   unfolding share claims
   share-most =
       omega (
         arith,
         compare d ps,
-        queued-is,
-        listed-is,
+        asking,
+        i .most d,
+        present-once,
         status-one,
         releases-one,
-        acquires-one,
         early-most d ps (one-each-way .0) (one-each-way .1),
         moves-most (acquires d) (r .decider .owner) (row (r .decider .owner) ps) ps (row-two r i),
         moves-most (releases d) (r .decider .owner) (row (r .decider .owner) ps) ps (row-two r i),
@@ -297,4 +309,4 @@ module _ (r : LockState) (i : Inv r) where
   unfolding stepsLeft
   steps-bound =
       let full : again clients clients ≡ 480 = unfold again in refl in
-      omega (arith, laps-most, full, row-two r i, sum-le clients 12 (λ d. share d r) (share-most r i))
+      omega (arith, laps-most, full, row-two r i, sum-le clients 14 (λ d. share d r) (share-most r i))

@@ -1,17 +1,17 @@
 -- The waiters that leave a queue and those that stay, holders that join, and room in a queue.
-use Rattle.theorems.specs.Names.{ClientId, Mode, Exclusive, Shared, Owner, Waiter, ToDecider, Grant, Packet, Idle, LockState, _≡_, refl, sym, _∙_, Bool}
-use Rattle.theorems.specs.Names.{true, false, _||_, and-true, false≢true, List, [], _∷_, map, ℕ, _+_, _≤_, _<_, arith, length, getD, set, length-set, eqb}
+use Rattle.theorems.specs.Names.{ClientId, Mode, Exclusive, Shared, Owner, Waiter, ToDecider, Grant, Packet, LockState, _≡_, refl, sym, _∙_, Bool, true}
+use Rattle.theorems.specs.Names.{false, _||_, and-true, false≢true, List, [], _∷_, map, ℕ, _+_, _≤_, _<_, arith, length, getD, set, length-set, eqb}
 use Rattle.theorems.specs.Names.{leb, ltb, eq-eqb, le-leb, lt-leb, any, isShared, plain, noAgent, isClient, grantOf, admitted, staying, joined}
 use Rattle.theorems.specs.Names.{bool-cases, clients, queueCapacity, Parting, done, first-leaves, first-stays, parting, none-leaves, _*_, eqb-true}
 use Rattle.theorems.specs.Names.{lt-ltb, MachineId, Agent, Site, someAgent, waiters, waiters-of, _++_, queuing, noRoom, withRoom, cannot-place, does}
-use Rattle.theorems.specs.Names.{true≢false}
+use Rattle.theorems.specs.Names.{true≢false, takenOff}
 use Rattle.theorems.specs.Tally.{flag, tally, tally-set, tally-le, tally-ext, tally-add, tally-zero, tally-length, tally-map, sumTo, sum-swap, sum-le}
 use Rattle.theorems.specs.Tally.{sum-add, tally-append}
-use Rattle.theorems.specs.Weights.{statusAt, one, hit, oneW, hitW, waitF, ownedMode, few, fits, misfitP, queuedS}
+use Rattle.theorems.specs.Weights.{one, hit, oneW, hitW, ownedMode, few, fits, misfitP, queuedS, weight, waitingP}
 use Rattle.theorems.specs.Invariant.{Inv}
 use Rattle.theorems.specs.InvariantStep.{Keeps}
 use Rattle.theorems.specs.Sent.{Good, good-by}
-use Rattle.theorems.specs.Facts.{far-idle, one-le, farW, far-none, shared-owner, hits, statuses, one-self, set-at, one-each}
+use Rattle.theorems.specs.Facts.{far-absent, one-le, farW, far-none, hits, one-self, set-at, one-each}
 
 -- ---- who leaves the queue and who stays are the queue, and those who leave are shared
 parted-by : {out stay ws : List Waiter} → Parting out stay ws → (f : Waiter → ℕ) → tally f ws ≡ tally f stay + tally f out
@@ -78,7 +78,7 @@ single-of d c Shared ws h = omega (arith, admitted-below d Shared ws)
 pub grants-fit : (o : Owner) (n : Mode) → ownedMode o n ≡ true → (ws : List Waiter) → tally farW ws ≡ 0 → tally (misfitP o) (map grantOf (admitted n ws)) ≡ 0
 grants-fit o Exclusive e ws h = rw (none-leaves ws .0) (unfold tally in refl)
 grants-fit o Shared e ws h =
-    omega (arith, grants-count Shared (misfitP o) farW (λ c. unfold misfitP fits noAgent in rw (shared-owner o e, and-true)) ws, parted Shared farW ws)
+    omega (arith, grants-count Shared (misfitP o) farW (λ c. unfold misfitP fits noAgent in rw (and-true)) ws, parted Shared farW ws)
 
 pub few-joined : (n : Mode) (hs : List Bool) (c : ℕ) (ws : List Waiter) → c < length hs → tally flag hs ≡ 0
     → few n (tally flag (joined (set hs c true) (admitted n ws))) ≡ true
@@ -101,14 +101,19 @@ line-length ws z =
     here : (w : Waiter) → 1 ≤ farW w + sumTo clients (λ d. oneW d w)
     here w = bool-cases (ltb (w .client .0) clients) (λ q. omega (arith, one-each (w .client) q)) (λ q. rw q (omega arith))
 
-line-once : (ws : List Waiter) (d : ℕ) → tally (oneW d) ws ≡ tally (hitW d Exclusive) ws + tally (hitW d Shared) ws
+pub line-once : (ws : List Waiter) (d : ℕ) → tally (oneW d) ws ≡ tally (hitW d Exclusive) ws + tally (hitW d Shared) ws
 line-once ws d = tally-ext (oneW d) _ (λ w. sym (hits d (w .client) (w .mode))) ws ∙ tally-add (hitW d Exclusive) (hitW d Shared) ws
 
--- the list is counted by `waits`
-module _ (r : LockState) (i : Inv r) (line : List Waiter) (counted : (d : ℕ) (m : Mode) → tally (hitW d m) line ≤ waitF m (statusAt r d)) where
+-- the list is counted among what asks
+module _ (r : LockState) (i : Inv r) (line : List Waiter) (counted : (d : ℕ) (m : Mode) → tally (hitW d m) line ≤ weight (waitingP d m) (queuedS d m) r) where
   pub none-far : tally farW line ≡ 0
-  unfolding waitF
-  none-far = far-none line (λ d m h. let w : waitF m (statusAt r d) ≡ 0 = rw (far-idle r d i h) in omega (arith, counted d m))
+  none-far =
+      far-none line (λ d m h. let w : weight (waitingP d m) (queuedS d m) r ≡ 0 = none m d (far-absent r d i h) in omega (arith, counted d m))
+    where
+      none : (m : Mode) (d : ℕ) → weight (waitingP d Exclusive) (queuedS d Exclusive) r + weight (waitingP d Shared) (queuedS d Shared) r ≡ 0
+          → weight (waitingP d m) (queuedS d m) r ≡ 0
+      none Exclusive d e = omega arith
+      none Shared d e = omega arith
 
   pub room : (c : ClientId) → c .0 < clients → ((d : ℕ) → tally (oneW d) line + one d c ≤ 1)
       → (any (isClient c) line || leb queueCapacity (length line)) ≡ false
@@ -118,23 +123,26 @@ module _ (r : LockState) (i : Inv r) (line : List Waiter) (counted : (d : ℕ) (
       omega (arith, line-length line none-far, sum-le clients 1 (λ d. tally (oneW d) line + one d c) once, one-each c (lt-ltb (c .0) clients cl)) in
       rw (any-none c line (omega (arith, once (c .0), one-self c)), lt-leb queueCapacity (length line) few)
 
-  -- the client that comes is idle
-  pub room-idle : (c : ClientId) → c .0 < clients → statusAt r (c .0) ≡ Idle → (any (isClient c) line || leb queueCapacity (length line)) ≡ false
-  unfolding one waitF
-  room-idle c cl id = room c cl once
+  -- the client that comes asks for nothing else
+  pub room-idle : (c : ClientId) → c .0 < clients
+      → weight (waitingP (c .0) Exclusive) (queuedS (c .0) Exclusive) r + weight (waitingP (c .0) Shared) (queuedS (c .0) Shared) r ≡ 0
+      → (any (isClient c) line || leb queueCapacity (length line)) ≡ false
+  unfolding one
+  room-idle c cl none = room c cl once
     where
       once : (d : ℕ) → tally (oneW d) line + one d c ≤ 1
       once d =
-          let e : eqb (c .0) d ≡ true → statusAt r d ≡ Idle = λ q. rw (← eqb-true (c .0) d q, id) in
           bool-cases (eqb (c .0) d)
-          (λ q. omega (arith, line-once line d, rw (e q) at (counted d Exclusive), rw (e q) at (counted d Shared), one-le d c))
-          (λ q. rw q (omega (arith, line-once line d, counted d Exclusive, counted d Shared, statuses (statusAt r d))))
+          (λ q. let e : c .0 ≡ d = eqb-true (c .0) d q in
+          omega (arith, line-once line d, counted d Exclusive, counted d Shared, rw e at none, one-le d c))
+          (λ q. rw q (omega (arith, line-once line d, counted d Exclusive, counted d Shared, i .most d)))
 
--- the client that comes waits, and its packet is counted too
+-- the client that comes asks by its packet, which is counted too
 pub room-waiting : (r : LockState) (i : Inv r) (line : List Waiter) (c : ClientId) (n : Mode) → c .0 < clients
-    → ((d : ℕ) (m : Mode) → hit d m c n + tally (hitW d m) line ≤ waitF m (statusAt r d)) → (any (isClient c) line || leb queueCapacity (length line)) ≡ false
+    → ((d : ℕ) (m : Mode) → hit d m c n + tally (hitW d m) line ≤ weight (waitingP d m) (queuedS d m) r)
+    → (any (isClient c) line || leb queueCapacity (length line)) ≡ false
 room-waiting r i line c n cl h =
-    room r i line (λ d m. omega (arith, h d m)) c cl (λ d. omega (arith, h d Exclusive, h d Shared, hits d c n, statuses (statusAt r d), line-once line d))
+    room r i line (λ d m. omega (arith, h d m)) c cl (λ d. omega (arith, h d Exclusive, h d Shared, hits d c n, i .most d, line-once line d))
 
 -- ---- a client joins a queue's end
 pub queued-one : (a : Agent) (c : ClientId) (n : Mode) (d : ℕ) (m : Mode) → queuedS d m (someAgent (queuing a c n)) ≡ queuedS d m (someAgent a) + hit d m c n
@@ -147,3 +155,18 @@ queued-one a c n d m =
 pub good-room : {r : LockState} {k : MachineId} {c : ClientId} {rest qs : List Packet} {v : Site} (a : Agent) → noRoom a c ≡ false → Keeps r k c rest v qs
     → Good r k c rest (withRoom a c (does v qs))
 good-room {r} {k} {c} {rest} {qs} {v} a e h = good-by r k c rest (noRoom a c) cannot-place (does v qs) (λ q. true≢false (sym q ∙ e)) (λ q. h)
+
+-- ---- a client is taken off a queue
+pub taken-off-count : (f : Waiter → ℕ) (c : ClientId) (ws : List Waiter) → tally f (takenOff c ws) ≤ tally f ws
+unfolding tally takenOff
+taken-off-count f c [] = omega arith
+taken-off-count f c (w ∷ ws) = bool-cases (isClient c w) (λ q. rw q (omega arith)) (λ q. rw q (omega (arith, taken-off-count f c ws)))
+
+-- one waiter goes, who is c
+pub taken-off-one : (c : ClientId) (ws : List Waiter) → any (isClient c) ws ≡ true → (d : ℕ)
+    → tally (oneW d) ws ≡ tally (oneW d) (takenOff c ws) + one d c
+unfolding tally takenOff one
+taken-off-one c [] e d = absurd (false≢true e)
+taken-off-one c (w ∷ ws) e d =
+    bool-cases (isClient c w) (λ q. let same : w .client .0 ≡ c .0 = eqb-true _ _ q in rw q (rw same (omega arith)))
+    (λ q. rw q (omega (arith, taken-off-one c ws (rw q at e) d)))

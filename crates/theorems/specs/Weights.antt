@@ -2,12 +2,19 @@
 -- Suffixes: M of a message, P of a packet, S of a slot, W of a waiter, F of a status or an owner. Clients and machines are numbers here.
 use Rattle.theorems.specs.Names.{Bool, true, false, _&&_, not, ℕ, _+_, _*_, length, getD, eqb, leb, ltb, MachineId, ClientId, Mode, Exclusive, Shared}
 use Rattle.theorems.specs.Names.{Owner, Unowned, Owned, Waiter, Agent, AgentSlot, Address, ToDecider, ToMachine, Message, Acquire, Grant, Release, Free}
-use Rattle.theorems.specs.Names.{Packet, Status, Idle, Waiting, Holding, LockState, waiters, noAgent, idle, packets, machines, clients, machineOf}
-use Rattle.theorems.specs.Names.{ownedShared, isMarked}
+use Rattle.theorems.specs.Names.{Packet, Status, Idle, Waiting, Holding, ClientState, LockState, waiters, noAgent, idle, packets, machines, clients}
+use Rattle.theorems.specs.Names.{machineOf, ownedShared, isMarked}
 use Rattle.theorems.specs.Tally.{flag, gate, tally}
 
+abbrev pub clientIn : LockState → ℕ → ClientState
+clientIn s d = getD (s .clients) d idle
+
 abbrev pub statusAt : LockState → ℕ → Status
-statusAt s d = getD (s .clients) d idle .status
+statusAt s d = clientIn s d .status
+
+-- it has the note of a lost GRANT
+abbrev pub noteAt : LockState → ℕ → Bool
+noteAt s d = clientIn s d .lost
 
 abbrev pub slotAt : LockState → ℕ → AgentSlot
 slotAt s k = getD (s .agents) k noAgent
@@ -119,6 +126,11 @@ waitF m Idle = 0
 waitF m (Waiting n) = flag (sameMode n m)
 waitF m (Holding n) = 0
 
+-- a GRANT that was lost was shared: so is the wait of whoever has the note
+unfoldable pub noteF : Mode → Bool → ℕ
+noteF Exclusive b = 0
+noteF Shared b = flag b
+
 -- in any mode
 unfoldable pub waitsF : Status → ℕ
 waitsF Idle = 0
@@ -134,6 +146,9 @@ unfoldable pub idleF : Status → ℕ
 idleF Idle = 1
 idleF (Waiting n) = 0
 idleF (Holding n) = 0
+
+abbrev pub sharedF : Owner → ℕ
+sharedF o = flag (ownedShared o)
 
 unfoldable pub ownedF : Owner → ℕ
 ownedF Unowned = 0
@@ -206,13 +221,12 @@ fitsCarried o ToDecider b a (Grant c n) = not b && (ownedMode o (a .mode) && fit
 fitsCarried o (ToMachine k) true a (Grant c n) = ownedAt o (k .0) && (ownedMode o (a .mode) && fitsAway a)
 fitsCarried o (ToMachine k) false a (Grant c n) = ownedAt o (k .0) && (eqb (machineOf c .0) (k .0) && (ownedMode o n && fitsAway a))
 
--- a packet without: marks and GRANTs only beside a shared lock, no RELEASE at a free one
+-- a packet without: marks only beside a shared lock, and every GRANT is shared
 abbrev pub fitsPlain : Owner → Message → Bool
 fitsPlain o (Acquire c n false) = true
 fitsPlain o (Acquire c n true) = ownedShared o
-fitsPlain o (Grant c n) = ownedShared o && sameMode n Shared
-fitsPlain Unowned (Release c) = false
-fitsPlain (Owned m k) (Release c) = true
+fitsPlain o (Grant c n) = sameMode n Shared
+fitsPlain o (Release c) = true
 fitsPlain o Free = false
 
 abbrev pub inRange : Message → Bool

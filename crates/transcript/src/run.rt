@@ -47,6 +47,12 @@ fn kind_of(c: Call) -> u8
             task: _,
         } => 2,
         Call::Deliver { lock: _, index: _ } => 3,
+        Call::Lose { lock: _, index: _ } => 6,
+        Call::GiveUp {
+            lock: _,
+            machine: _,
+            task: _,
+        } => 7,
     }
 }
 

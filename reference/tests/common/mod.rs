@@ -7,11 +7,12 @@ use reference::model::{
     Address, Agent, ClientId, ClientStatus, Cluster, LockId, LockState, MachineId, Message, Mode,
     Packet, TaskId, Waiter,
 };
-use reference::random_calls::{Call, DELIVER, HAND_MADE, RELEASE};
+use reference::random_calls::{Call, Profile, DELIVER, GIVE_UP, HAND_MADE, RELEASE};
 use reference::random_runs::Run;
+use reference::random_transcripts::transcript_bytes;
 use reference::report::{Report, Tally};
-use reference::transcript::Record;
-use reference::{answer_number, Drained, Handling, Refusal};
+use reference::transcript::{Record, Records};
+use reference::{answer_number, Drained, Handling, Refusal, DRAIN_LIMIT};
 use std::ops::RangeInclusive;
 use std::process::Command;
 
@@ -33,7 +34,7 @@ pub fn fresh(preference: u8) -> Cluster {
 
 /// The cluster that a run starts from (docs/random-runs.md).
 pub fn run_cluster(seed: u64) -> Cluster {
-    fresh(if seed / 9 % 2 == 1 { WRITERS } else { READERS })
+    fresh(if seed / 11 % 2 == 1 { WRITERS } else { READERS })
 }
 
 pub fn acquire(cluster: &mut Cluster, machine: u8, task: u8, mode: u8) -> u8 {
@@ -46,6 +47,14 @@ pub fn release(cluster: &mut Cluster, machine: u8, task: u8) -> u8 {
 
 pub fn deliver(cluster: &mut Cluster, index: u8) -> u8 {
     answer(cluster.deliver(LOCK, index))
+}
+
+pub fn lose(cluster: &mut Cluster, index: u8) -> u8 {
+    answer(cluster.lose(LOCK, index))
+}
+
+pub fn give_up(cluster: &mut Cluster, machine: u8, task: u8) -> u8 {
+    answer(cluster.give_up(LOCK, MachineId(machine), TaskId(task)))
 }
 
 pub fn answer<T>(outcome: Result<T, Refusal>) -> u8 {
@@ -248,7 +257,7 @@ pub fn d13() -> Cluster {
     cluster
 }
 
-/// The indexes of all packets that name a client; a wire that claims more than 33 packets has 33.
+/// The indexes of all packets that name a client; a wire that claims more than 49 packets has 49.
 pub fn all_naming(state: &LockState, asked: ClientId) -> Vec<usize> {
     let client_of = |packet: &Packet| match packet.message {
         Message::Acquire { client, .. } => Some(client),
@@ -256,7 +265,7 @@ pub fn all_naming(state: &LockState, asked: ClientId) -> Vec<usize> {
         Message::Release { client } => Some(client),
         Message::Free => None,
     };
-    let all = 0..state.wire.len().min(33);
+    let all = 0..state.wire.len().min(49);
     all.filter(|&index| client_of(&state.wire[index]) == Some(asked))
         .collect()
 }
@@ -279,8 +288,10 @@ pub fn call_of(record: Record) -> Call {
     let nowhere = (MachineId(0), TaskId(0));
     let (lock, (machine, task), mode, index) = match record {
         Record::Acquire(lock, machine, task, mode) => (lock, (machine, task), mode, 0),
-        Record::Release(lock, machine, task) => (lock, (machine, task), 0, 0),
-        Record::Deliver(lock, index) => (lock, nowhere, 0, index),
+        Record::Release(lock, machine, task) | Record::GiveUp(lock, machine, task) => {
+            (lock, (machine, task), 0, 0)
+        }
+        Record::Deliver(lock, index) | Record::Lose(lock, index) => (lock, nowhere, 0, index),
     };
     Call {
         kind: record.kind() as u8,
@@ -292,13 +303,79 @@ pub fn call_of(record: Record) -> Call {
     }
 }
 
+pub fn acquire_record(machine: u8, task: u8, mode: u8) -> Record {
+    Record::Acquire(LOCK, MachineId(machine), TaskId(task), mode)
+}
+
+pub fn release_record(machine: u8, task: u8) -> Record {
+    Record::Release(LOCK, MachineId(machine), TaskId(task))
+}
+
+pub fn give_up_record(machine: u8, task: u8) -> Record {
+    Record::GiveUp(LOCK, MachineId(machine), TaskId(task))
+}
+
+pub fn deliver_record(index: u8) -> Record {
+    Record::Deliver(LOCK, index)
+}
+
+pub fn lose_record(index: u8) -> Record {
+    Record::Lose(LOCK, index)
+}
+
+/// The good records of a random transcript; one that is too long is not run.
+pub fn run_records(seed: u64) -> Vec<Record> {
+    let bytes = transcript_bytes(seed);
+    let records = Records::new(&bytes).map_while(Result::ok);
+    records.filter(|_| bytes.len() <= 65_535).collect()
+}
+
+/// Carries out a run once more. Each call, and on a copy each step of a drain, is made by `make`, which says whether it was accepted.
+pub fn carry_out_run(
+    seed: u64,
+    profile: Profile,
+    (mut generator, mut cluster): (Generator, Cluster),
+    mut make: impl FnMut(Call, &mut Cluster) -> bool,
+) {
+    for _ in 0..profile.steps {
+        let outputs = generator.eight();
+        let call = profile.choose_call(seed, &outputs, &cluster);
+        if outputs[0].is_multiple_of(64) {
+            let mut copy = cluster.clone();
+            let mut next =
+                |_: &u16| drain_step(&copy, call).is_some_and(|step| make(step, &mut copy));
+            let _ = (0..DRAIN_LIMIT).take_while(|number| next(number)).count();
+            if seed / 16 % 2 == 1 {
+                let _ = cluster.drain(call.lock);
+            }
+        }
+        let _ = make(call, &mut cluster);
+    }
+}
+
+/// The bytes of a transcript with these records, worked out once more.
+pub fn records_bytes(records: &[Record]) -> Vec<u8> {
+    let bytes = |record: &Record| match *record {
+        Record::Acquire(lock, machine, task, mode) => {
+            vec![8, 0, 1, 0, lock.0, machine.0, task.0, mode]
+        }
+        Record::Release(lock, machine, task) => vec![7, 0, 2, 0, lock.0, machine.0, task.0],
+        Record::Deliver(lock, index) => vec![6, 0, 3, 0, lock.0, index],
+        Record::Lose(lock, index) => vec![6, 0, 6, 0, lock.0, index],
+        Record::GiveUp(lock, machine, task) => vec![7, 0, 7, 0, lock.0, machine.0, task.0],
+    };
+    records.iter().flat_map(bytes).collect()
+}
+
 /// The next step of a drain of the call's lock, none where it is quiescent or does not exist.
 pub fn drain_step(cluster: &Cluster, call: Call) -> Option<Call> {
     let state = cluster.locks.get(call.lock.index())?;
     let holding = |&c: &u8| matches!(state.clients[usize::from(c)], ClientStatus::Holding(_));
-    let (kind, number) = match state.wire.is_empty() {
-        false => (DELIVER, 0),
-        true => (RELEASE, (0..16).find(holding)?),
+    let noted = |&c: &u8| state.lost_grants.contains(ClientId(c));
+    let (kind, number) = match (state.wire.is_empty(), (0..16).find(holding)) {
+        (false, _) => (DELIVER, 0),
+        (true, Some(holder)) => (RELEASE, holder),
+        (true, None) => (GIVE_UP, (0..16).find(noted)?),
     };
     Some(Call {
         kind,

@@ -4,4 +4,5 @@ use Rattle.digest.proofs.client.Tie as tie
 
 pub client-spec : {M : Type 1} → statement M
 unfolding clientBytes
-client-spec = tie.close (tie.spec (search needs) (search needs) (λ c. rw (c .byte .ensures, c .before .status-number .ensures)))
+client-spec = tie.close (tie.spec (search needs) (search needs) (search needs)
+    (λ c. rw (c .two .ensures, c .before .flag-number .ensures, c .before .before .status-number .ensures)))

@@ -3,10 +3,10 @@ use Rattle.queues.proofs.cut_waiters.Statement.{statement}
 use Rattle.queues.proofs.cut_waiters.Tie as tie
 
 abbrev Inv-loop : tie.InvT-loop
-Inv-loop n b₀ j₀ b j = (cutUsed b j n blankWaiter ≡ cutUsed b₀ j₀ n blankWaiter) × ((length b ≡ queueCapacity) × (j < n))
+Inv-loop i n b₀ j₀ b j = (cutUsed b j n blankWaiter ≡ cutUsed b₀ j₀ n blankWaiter) × ((length b ≡ queueCapacity) × (j < n))
 
 abbrev μ-loop : tie.MeasureT-loop
-μ-loop n b₀ j₀ b j = n - j
+μ-loop i n b₀ j₀ b j = n - j
 
 loop-again : tie.Need-loop-again Inv-loop μ-loop
 loop-again c =

@@ -34,4 +34,4 @@ first-true-spec = tie.close (tie.spec (search needs) (search needs)
       sym (first-is _ _ _ (a .first-packet .ensures)) ∙ b .before .enum-told .given .1,
       sym (first-is _ _ _ (b .first-packet2 .ensures)) ∙ d .before .enum-told2 .given .1,
       sym (first-is _ _ _ (d .first-packet3 .ensures)) ∙ c .before .enum-told3 .given .1,
-    ) (c .first-in-queues .ensures)))
+    ) (c .first-in-state .ensures)))

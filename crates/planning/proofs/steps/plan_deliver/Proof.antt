@@ -2,6 +2,9 @@ use Rattle.planning.proofs.Base.{_<_, arith, length, needs, packets, ta
 use Rattle.planning.proofs.steps.plan_deliver.Statement.{statement}
 use Rattle.planning.proofs.steps.plan_deliver.Tie as tie
 
+handled-at-requires : tie.Need-handled-at-requires
+handled-at-requires c κs = rw (c .site-of .ensures) (c .before .before .before .before .pre .0 .agents _)
+
 deliver-requires : tie.Need-deliver-requires
 deliver-requires c κs =
     let v = c .before in
@@ -30,5 +33,5 @@ returns c =
     at (c .plan-effect .ensures (s .args .s) e)
 
 pub plan-deliver-spec : {M : Type 1} → statement M
-plan-deliver-spec = tie.close (tie.spec (λ c κs. search needs) (search needs) (search needs) (search needs) (λ c κs. search needs) deliver-requires
+plan-deliver-spec = tie.close (tie.spec (λ c κs. search needs) (search needs) (search needs) (search needs) handled-at-requires deliver-requires
     (search needs) (λ c κs. let s = c .before .before .before .before .before .before .before in omega (arith, s .pre .0 .wire .short)) returns)

@@ -38,11 +38,27 @@ returns-5 c =
 returns-6 : tie.Need-returns-6
 unfolding readRecord
 returns-6 c =
-    let e = c .before in
+    let e = c .before .before .before in
     rw (lt-leb _ _ (e .before .before .if1 .left), le-ltb _ _ (e .before .if2 .left), ← e .short-at .ensures)
-    (rw (ne-eqb _ _ (c .match .rest .0 .0 .1), ne-eqb _ _ (c .match .rest .0 .1), ne-eqb _ _ (c .match .rest .1)))
+    (rw (c .before .before .match .keys4, c .whole-record4 .ensures, c .before .lose-at .ensures))
+
+returns-7 : tie.Need-returns-7
+unfolding readRecord
+returns-7 c =
+    let e = c .before .before .before in
+    rw (lt-leb _ _ (e .before .before .if1 .left), le-ltb _ _ (e .before .if2 .left), ← e .short-at .ensures)
+    (rw (c .before .before .match .keys5, c .whole-record5 .ensures, c .before .give-up-at .ensures))
+
+returns-8 : tie.Need-returns-8
+unfolding readRecord
+returns-8 c =
+    let e = c .before in
+    let r = c .match .rest in
+    rw (lt-leb _ _ (e .before .before .if1 .left), le-ltb _ _ (e .before .if2 .left), ← e .short-at .ensures)
+    (rw (ne-eqb _ _ (r .0 .0 .0 .0 .1), ne-eqb _ _ (r .0 .0 .0 .1), ne-eqb _ _ (r .0 .0 .1), ne-eqb _ _ (r .0 .1), ne-eqb _ _ (r .1)))
 
 pub read-record-spec : {M : Type 1} → statement M
 read-record-spec = tie.close (tie.spec returns (λ c. search needs) returns-2 (λ c. search needs)
     (λ c κs. search needs) (λ c κs. search needs) (λ c κs. search needs) (λ c κs. search needs) (λ c κs. search needs) (λ c κs. search needs)
-    (λ c κs. search needs) returns-3 returns-4 returns-5 returns-6)
+    (λ c κs. search needs) (λ c κs. search needs) (λ c κs. search needs) (λ c κs. search needs) (λ c κs. search needs)
+    returns-3 returns-4 returns-5 returns-6 returns-7 returns-8)
