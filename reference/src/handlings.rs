@@ -5,7 +5,10 @@
 
 use crate::answer::Handling;
 use crate::counts::check;
-use crate::model::{Address, Agent, ClientId, LockState, MachineId, Message, Packet};
+use crate::model::{
+    Address, Agent, ClientId, ClientSet, LockState, MachineId, Message, Packet, Waiter,
+};
+use std::collections::VecDeque;
 
 /// An ACQUIRE or RELEASE that comes to a machine, as it is before its delivery.
 #[derive(Clone, Debug, PartialEq, Eq)]
@@ -47,10 +50,11 @@ impl Arrival {
             }
             Handling::Taken => {
                 self.check_taker()?;
-                match self.is_of_queued() {
-                    true => self.check_taken_off_queue(after),
-                    false => self.check_nothing_sent_on(after),
+                if self.is_of_queued() {
+                    return self.check_taken_off_queue(after);
                 }
+                self.check_nothing_sent_on(after)?;
+                self.check_lists(after)
             }
         }
     }
@@ -126,11 +130,65 @@ impl Arrival {
     }
 
     fn check_nothing_sent_on(&self, after: &LockState) -> Result<(), String> {
-        // The delivered packet is gone, and what was sent is behind the others.
-        let mut sent = after.wire.iter().skip(self.before.wire.len() - 1);
-        check(!sent.any(is_request_or_release), || {
+        check(!self.sent(after).iter().any(is_request_or_release), || {
             String::from("taken, but an ACQUIRE or RELEASE was sent")
         })
+    }
+
+    /// Who is listed and who is queued, once the packet of a holder or an ACQUIRE is taken.
+    fn check_lists(&self, after: &LockState) -> Result<(), String> {
+        let Some(before) = self.agent().map(Lists::of) else {
+            return Ok(());
+        };
+        match self.before.wire[self.index].message {
+            Message::Release { client } => self.check_taken_off_holders(before, client, after),
+            Message::Acquire { client, mode, .. } => {
+                let waiter = Waiter { client, mode };
+                self.check_listed_or_queued(before, waiter, after)
+            }
+            Message::Grant { .. } | Message::Free => Ok(()),
+        }
+    }
+
+    /// The client alone is off the lists, whether the agent stays or was sent away.
+    fn check_taken_off_holders(
+        &self,
+        before: Lists,
+        client: ClientId,
+        after: &LockState,
+    ) -> Result<(), String> {
+        let mut expected = before;
+        expected.holders.remove(client);
+        let stays = after.agents[self.machine.index()].as_ref().map(Lists::of);
+        let sent = self.sent(after).iter().filter_map(Lists::of_sent);
+        // An agent that is in both places, or in none, is as wrong as one with other lists.
+        check(stays.into_iter().chain(sent).eq([expected]), || {
+            let client = client.0;
+            format!("the step did more, or less, than take client {client} off the holders")
+        })
+    }
+
+    /// The client is among the holders or last in the queue, and nobody else has come or gone.
+    fn check_listed_or_queued(
+        &self,
+        before: Lists,
+        asks: Waiter,
+        after: &LockState,
+    ) -> Result<(), String> {
+        let (mut listed, mut queued) = (before.clone(), before);
+        listed.holders.insert(asks.client);
+        queued.queue.push_back(asks);
+        let stays = after.agents[self.machine.index()].as_ref().map(Lists::of);
+        check(stays == Some(listed) || stays == Some(queued), || {
+            let client = asks.client.0;
+            format!("the step did more, or less, than list client {client} or queue it last")
+        })
+    }
+
+    /// The delivered packet is gone, and what was sent is behind the others.
+    fn sent<'a>(&self, after: &'a LockState) -> &'a [Packet] {
+        let stayed = self.before.wire.len() - 1;
+        after.wire.get(stayed..).unwrap_or_default()
     }
 
     /// The agent that was on the machine.
@@ -144,6 +202,31 @@ impl Arrival {
             Message::Release { client } => Some(client),
             _ => None,
         }
+    }
+}
+
+/// Whom an agent lists, and whom it has in its queue.
+#[derive(Clone, Debug, PartialEq, Eq)]
+struct Lists {
+    holders: ClientSet,
+    queue: VecDeque<Waiter>,
+}
+
+impl Lists {
+    fn of(agent: &Agent) -> Self {
+        Lists {
+            holders: agent.holders,
+            queue: agent.queue.clone(),
+        }
+    }
+
+    /// Those of the agent in a packet, as they were before it left: the client of its GRANT was the first in the queue.
+    fn of_sent(packet: &Packet) -> Option<Self> {
+        let mut lists = Lists::of(packet.agent.as_ref()?);
+        if let Message::Grant { client, mode } = packet.message {
+            lists.queue.push_front(Waiter { client, mode });
+        }
+        Some(lists)
     }
 }
 

@@ -39,7 +39,8 @@ pub struct Profile {
     pub wild: u64,
     pub delay_granted: bool,
     pub delay_agents: bool,
-    pub delay_requests: bool,
+    pub delay_requests_to_machines: bool,
+    pub delay_requests_to_decider: bool,
     pub delay_plain_grants: bool,
     pub pin_client_0: bool,
     pub gives_up: u64,
@@ -54,7 +55,8 @@ const BASE: Profile = Profile {
     wild: 1,
     delay_granted: false,
     delay_agents: false,
-    delay_requests: false,
+    delay_requests_to_machines: false,
+    delay_requests_to_decider: false,
     delay_plain_grants: false,
     pin_client_0: false,
     gives_up: 0,
@@ -104,7 +106,7 @@ const PINNED_READER: Profile = Profile {
     ..BASE
 };
 const LATE_REQUESTS: Profile = Profile {
-    delay_requests: true,
+    delay_requests_to_machines: true,
     ..BASE
 };
 const LATE_WRITERS: Profile = Profile {
@@ -114,22 +116,40 @@ const LATE_WRITERS: Profile = Profile {
     ..BASE
 };
 
+/// A GRANT that stays long on the wire is lost more often, and its client has time to give up.
 const LOST_GRANTS: Profile = Profile {
+    shared: 48,
+    deliver: 28,
+    delay_plain_grants: true,
+    gives_up: 8,
+    loses: 16,
+    ..BASE
+};
+/// Who gives up before its GRANT comes has three packets; with only readers and no losses all clients can have them at once.
+const LONGEST_WIRES: Profile = Profile {
+    steps: 1_024,
+    shared: 64,
+    delay_plain_grants: true,
+    gives_up: 63,
+    ..LONG_WIRES
+};
+/// The RELEASE of a client that gave up overtakes its ACQUIRE on the way to the decider.
+const EARLY_RELEASES: Profile = Profile {
+    locks: 2,
+    deliver: 40,
+    delay_requests_to_decider: true,
+    gives_up: 48,
+    ..BASE
+};
+const IMPATIENT_WAITERS: Profile = Profile {
     shared: 40,
     deliver: 28,
     gives_up: 8,
     loses: 16,
     ..BASE
 };
-/// Who gives up before its GRANT comes has three packets.
-const LONGEST_WIRES: Profile = Profile {
-    delay_plain_grants: true,
-    gives_up: 48,
-    loses: 1,
-    ..LONG_WIRES
-};
 
-const PROFILES: [Profile; 11] = [
+pub const PROFILES: [Profile; 13] = [
     CONTENTION,
     STARVED_READERS,
     DELAYED_AGENTS,
@@ -141,6 +161,8 @@ const PROFILES: [Profile; 11] = [
     LATE_WRITERS,
     LOST_GRANTS,
     LONGEST_WIRES,
+    EARLY_RELEASES,
+    IMPATIENT_WAITERS,
 ];
 
 /// The profile of the calls on a hand-made state.
@@ -236,7 +258,8 @@ impl Profile {
         let to_machine = packet.address != Address::Decider;
         match packet.message {
             Message::Acquire { granted: true, .. } => self.delay_granted,
-            Message::Acquire { .. } => self.delay_requests && to_machine,
+            Message::Acquire { .. } if to_machine => self.delay_requests_to_machines,
+            Message::Acquire { .. } => self.delay_requests_to_decider,
             Message::Grant { .. } if packet.agent.is_none() => self.delay_plain_grants,
             _ => self.delay_agents && packet.agent.is_some(),
         }

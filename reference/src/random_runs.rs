@@ -7,7 +7,7 @@ use crate::drain::Drained;
 use crate::drain_test::{Book, DrainTest};
 use crate::generator::Generator;
 use crate::model::{ClientId, Cluster, LockId, LOCKS};
-use crate::random_calls::{Call, Profile, DRAIN, FRESH, REASON};
+use crate::random_calls::{Call, Profile, DRAIN, FRESH, PROFILES, REASON};
 use crate::reasons::reason_numbers;
 use crate::report::{Observation, Report};
 use std::io;
@@ -80,7 +80,8 @@ pub fn random_run(seed: u64, report: &mut Report) -> io::Result<()> {
     let profile = Profile::of_seed(seed);
     let generator = Generator::new(seed);
     // Each profile has both preferences in turn.
-    let (_, cluster) = Cluster::fresh((seed / 11 % 2) as u8);
+    let turn = seed / PROFILES.len() as u64;
+    let (_, cluster) = Cluster::fresh((turn % 2) as u8);
     let run = Run::new("run", seed, profile, generator, cluster);
     run.tested().finish(report)
 }

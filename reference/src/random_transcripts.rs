@@ -13,7 +13,7 @@ use crate::transcript::{listing, Record, TRANSCRIPT_LIMIT};
 use std::io;
 
 pub const FIRST_TRANSCRIPT: u64 = 1;
-pub const LAST_TRANSCRIPT: u64 = 264;
+pub const LAST_TRANSCRIPT: u64 = 312;
 
 /// One byte more than a transcript may have.
 const BUFFER: usize = TRANSCRIPT_LIMIT + 1;

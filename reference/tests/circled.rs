@@ -1215,7 +1215,7 @@ fn met_by_transcript(seed: u64) -> Met {
     met
 }
 
-/// All eleven profiles with each preference, with drains that are kept and drains that are not.
+/// All thirteen profiles with each preference, with drains that are kept and drains that are not.
 #[test]
 fn every_packet_of_a_run_is_counted() {
     let met = (1..=36).map(|seed| {

@@ -378,7 +378,7 @@ fn hand_made_run_is_not_tested() {
 /// Each call of a lock that exists, answered 1 otherwise, and each step of a drain.
 #[test]
 fn every_state_of_a_run_is_tested() {
-    let tally = tally_of(random_run, 1..=11);
+    let tally = tally_of(random_run, 1..=13);
     let calls = [1, 2, 3, 6, 7].map(|kind: usize| tally.answers[kind]);
     let on_a_lock = |answers: &[u64; 19]| answers.iter().sum::<u64>() - answers[1];
     let expected = calls.iter().map(on_a_lock).sum::<u64>() + tally.drain_steps;

@@ -509,7 +509,7 @@ fn assert_all_tested(tally: &Tally, met: &[[Met; 2]]) {
     assert_eq!(Met::of(tally), calls.plus(drains));
 }
 
-/// All eleven profiles, with drains that are kept and drains that are not.
+/// All thirteen profiles, with drains that are kept and drains that are not.
 #[test]
 fn every_installation_of_a_run_is_tested() {
     let met = |seed| {

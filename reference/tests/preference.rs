@@ -1010,7 +1010,7 @@ fn transcript_keeps_the_preference() {
 /// Nobody holds beside a writer, and nobody is refused for want of a place, whoever is preferred.
 #[test]
 fn exclusion_holds_with_both_preferences() {
-    for seed in 1..=55 {
+    for seed in 1..=65 {
         for preference in BOTH {
             let (profile, mut generator) = (Profile::of_seed(seed), Generator::new(seed));
             let mut cluster = fresh(preference);
@@ -1354,7 +1354,7 @@ fn sum(met: &[[Met; 2]], part: usize) -> Met {
     parts.fold(Met::default(), Met::plus)
 }
 
-/// All eleven profiles with each preference, with drains that are kept and drains that are not.
+/// All thirteen profiles with each preference, with drains that are kept and drains that are not.
 #[test]
 fn every_request_behind_a_writer_in_a_run_is_tested() {
     let met = |seed| {
@@ -1442,18 +1442,18 @@ fn line_of_the_fresh_clusters() {
     assert_eq!(written, format!("{}\n", fresh_line()).into_bytes());
 }
 
-/// Seeds 1 to 10 prefer readers, the next eleven writers, and the eleven after these readers again.
+/// Seeds 1 to 12 prefer readers, the next thirteen writers, and the thirteen after these readers again.
 #[test]
 fn runs_start_with_both_preferences() {
     let mut found = [false; 2];
-    for seed in 1..=32 {
+    for seed in 1..=38 {
         let mut written = Vec::new();
         let mut report = Report::new(&mut written, true);
         random_run(seed, &mut report).expect("nothing is broken");
         let text = String::from_utf8(written).expect("lines are text");
         let (profile, mut generator) = (Profile::of_seed(seed), Generator::new(seed));
         let mut cluster = run_cluster(seed);
-        let preference = if (11..22).contains(&seed) { 1 } else { 0 };
+        let preference = if (13..26).contains(&seed) { 1 } else { 0 };
         assert_eq!(cluster.preference, preference);
         found[usize::from(preference)] = true;
         // Up to the first drain the clusters of the lines are those of the calls.

@@ -722,10 +722,10 @@ fn expected_numbers(cluster: &Cluster, lock: LockId, machine: MachineId, task: T
     }
 }
 
-/// The first seeds have all eleven profiles, with drains that are kept and drains that are not, and both preferences.
+/// The first seeds have all thirteen profiles, with drains that are kept and drains that are not, and both preferences.
 #[test]
 fn asks_of_runs_are_in_lines_and_digests() {
-    for seed in (1..=11).chain([16, 17, 25, 31]) {
+    for seed in (1..=13).chain([16, 17, 25, 31]) {
         let (profile, generator) = (Profile::of_seed(seed), Generator::new(seed));
         assert_asks(random_run, seed, profile, generator, run_cluster(seed));
     }

@@ -338,7 +338,7 @@ fn check_calls(seed: u64, profile: Profile, mut generator: Generator, mut cluste
 
 #[test]
 fn random_calls_keep_the_bounds() {
-    for seed in 1..=55 {
+    for seed in 1..=65 {
         let profile = Profile::of_seed(seed);
         for preference in BOTH {
             check_calls(seed, profile, Generator::new(seed), fresh(preference));
@@ -355,7 +355,7 @@ fn random_calls_keep_the_bounds() {
 /// quiescent (document 01, 'Runs, waits and holds'), whoever is preferred.
 #[test]
 fn drain_after_any_list_of_calls_ends() {
-    for (seed, preference) in (1..=55).flat_map(|seed| BOTH.map(|of| (seed, of))) {
+    for (seed, preference) in (1..=65).flat_map(|seed| BOTH.map(|of| (seed, of))) {
         let mut generator = Generator::new(seed);
         let mut cluster = fresh(preference);
         for _ in 0..200 {

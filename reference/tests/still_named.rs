@@ -644,7 +644,7 @@ fn assert_all_met(met: Met) {
     assert!(refused > twice && twice > 0 && behind > 0, "{met:?}");
 }
 
-/// All eleven profiles, with drains that are kept and drains that are not, and both preferences.
+/// All thirteen profiles, with drains that are kept and drains that are not, and both preferences.
 #[test]
 fn every_acquire_of_a_run_is_tested_and_every_search_is_in_a_line() {
     let (mut met, mut searches) = ([0; 3], [0; 3]);

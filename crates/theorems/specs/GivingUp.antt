@@ -7,12 +7,13 @@ use Rattle.laws.specs.Formed.{parts, ready, client-of, lock-formed}
 use Rattle.laws.specs.CallSteps.{Allowed, may-lose, may-give-up, may-deliver, perform-here, settled-answer, not-accepted, Passes, passes}
 use mathlib.Core.List.{append-nil}
 use Rattle.theorems.specs.Names.{LockId, MachineId, TaskId, ClientId, Mode, Agent, Address, ToDecider, ToMachine, Message, Free, Acquire, Grant, Release}
-use Rattle.theorems.specs.Names.{Packet, Status, Idle, Waiting, Holding, Unowned, ClientState, Site, LockState, Cluster, LoseCall, GiveUpCall, DeliverCall}
+use Rattle.theorems.specs.Names.{Packet, Idle, Waiting, Unowned, ClientState, Site, LockState, Cluster, LoseCall, GiveUpCall, DeliverCall}
 use Rattle.theorems.specs.Names.{Accepted, Stepped, _≡_, refl, sym, ap, _∙_, Bool, true, false, _&&_, _||_, not, false≢true, List, [], _∷_, _++_, map, ℕ}
 use Rattle.theorems.specs.Names.{_+_, _≤_, _<_, arith, length, getD, set, set-getD, leb, le-leb, lt-leb, removed, locks, machines, tasks, wireCapacity}
-use Rattle.theorems.specs.Names.{clientOf, agentOn, noAgent, idle, statusOf, isWaiting, plain, resent, waiters, packets, lockIn, clientFormed, wellFormed, siteOf}
-use Rattle.theorems.specs.Names.{Verdict, cannot-place, does, apply, finish, grantOf, admitted, installed, installs, grantArrives, arrives, atMachine, atDecider, decides}
-use Rattle.theorems.specs.Names.{decidesRelease, clientGivesUp, grantIsLost, packetAt, delivers, takes, deliverStep, giveUpStep, drops, loseStep, isGrant}
+use Rattle.theorems.specs.Names.{clientOf, agentOn, noAgent, idle, statusOf, isWaiting, plain, resent, waiters, packets, lockIn, clientFormed, wellFormed}
+use Rattle.theorems.specs.Names.{siteOf, cannot-place, does, apply, finish, grantOf, admitted, installed, installs, grantArrives, arrives, atMachine}
+use Rattle.theorems.specs.Names.{atDecider, decides, decidesRelease, clientGivesUp, grantIsLost, packetAt, delivers, takes, deliverStep, giveUpStep}
+use Rattle.theorems.specs.Names.{drops, loseStep, isGrant}
 use Rattle.theorems.specs.Names.{canBeLost, toDecider, unless, lose, giveUp, deliver, perform, and-left, and-right, wireOf}
 use Rattle.theorems.specs.Statements.{written, withAgent, CanBeLost, Loses, GivesUp, StaysIdle, GoesRound, LosesAndGivesUp}
 

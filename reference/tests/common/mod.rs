@@ -34,7 +34,7 @@ pub fn fresh(preference: u8) -> Cluster {
 
 /// The cluster that a run starts from (docs/random-runs.md).
 pub fn run_cluster(seed: u64) -> Cluster {
-    fresh(if seed / 11 % 2 == 1 { WRITERS } else { READERS })
+    fresh(if seed / 13 % 2 == 1 { WRITERS } else { READERS })
 }
 
 pub fn acquire(cluster: &mut Cluster, machine: u8, task: u8, mode: u8) -> u8 {

@@ -1,4 +1,5 @@
-use Rattle.queues.proofs.Base.{_≡_, _∙_, ap, arith, needs, waiters, queue-whole, off-first, off-none, first-below, isClient, IsFirst, At, Nowhere, queueOf}
+use Rattle.queues.proofs.Base.{_≡_, _∙_, ap, arith, needs, waiters, queue-whole, off-first, off-none, first-below, isClient, IsFirst, At, Nowhere}
+use Rattle.queues.proofs.Base.{queueOf}
 use Rattle.queues.proofs.Base.{length-waiters, takenOff, Waiter, List, _<_, sym}
 use Rattle.queues.proofs.taken_off.Statement.{statement}
 use Rattle.queues.proofs.taken_off.Tie as tie
