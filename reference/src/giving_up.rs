@@ -233,7 +233,7 @@ fn case_of_delivery(state: &LockState, index: usize) -> Option<Case> {
     }
 }
 
-/// The client of a GRANT without agent that is addressed to a machine.
+/// Whose plain GRANT the packet is, if it is one on its way to a machine.
 fn losable_client(packet: &Packet) -> Option<ClientId> {
     match (packet.message, packet.address, &packet.agent) {
         (Message::Grant { client, .. }, Address::Machine(_), None) => Some(client),

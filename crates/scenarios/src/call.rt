@@ -142,14 +142,9 @@ fn told(x: Cluster, s: &[u8], a: &[u8], b: &[u8], handled: bool, c: &[u8]) -> Cl
     d.cluster
 }
 
-// The text and the answer on a line.
-pub fn called(x: Cluster, s: &[u8]) -> Cluster {
-    told(x, s, s, b": ", false, b"\n")
-}
-
-// The same, with the handling behind the answer.
-pub fn handled(x: Cluster, s: &[u8]) -> Cluster {
-    told(x, s, s, b": ", true, b"\n")
+// The text and the answer on a line, with the handling behind it where that is asked for.
+pub fn called(x: Cluster, s: &[u8], handled: bool) -> Cluster {
+    told(x, s, s, b": ", handled, b"\n")
 }
 
 // The call n times over, and how many of them were accepted; u is the text that says both.
@@ -173,16 +168,15 @@ pub fn repeated(x: Cluster, n: u8, u: &[u8], s: &[u8]) -> Cluster {
     y
 }
 
-// The same as `called`, where the cluster that the call gives is not kept.
-pub fn tried(x: Cluster, s: &[u8]) {
-    called(x, s);
+fn chosen<'a>(first: bool, s: &'a [u8], r: &'a [u8]) -> &'a [u8] {
+    if first { s } else { r }
 }
 
-// The answer alone, behind a word.
-pub fn inside(x: Cluster, s: &[u8]) {
-    told(x, s, b": ", b"inside ", false, b"");
-}
-
-pub fn outside(x: Cluster, s: &[u8]) {
-    told(x, s, b", ", b"outside ", false, b"\n");
+// The call where the cluster that it gives is not kept, by the command's place: `try`, the same as `called`; `inside`, 4, and `outside`, 5, the answer alone
+// behind a word. One call for all three: each would take a cluster's room on the stack.
+pub fn tried(x: Cluster, k: usize, s: &[u8]) {
+    let front = chosen(k == 4, b": ", chosen(k == 5, b", ", s));
+    let before = chosen(k == 4, b"inside ", chosen(k == 5, b"outside ", b": "));
+    let behind = chosen(k == 4, b"", b"\n");
+    told(x, s, front, before, false, behind);
 }

@@ -16,10 +16,9 @@ use model::Cluster;
 use model::LOCKS;
 use model::Packet;
 
-// The cluster of the next call, the one that was kept, and the agent, the packet and the transcript in the making.
+// The cluster of the next call, and the agent, the packet and the transcript in the making.
 pub struct Made {
     pub cluster: Cluster,
-    pub kept: Cluster,
     pub slot: AgentSlot,
     pub packet: Packet,
     pub records: Records,
@@ -32,7 +31,6 @@ fn starting(cluster: Cluster) -> Made {
     let records = transcripts::none();
     Made {
         cluster,
-        kept: cluster,
         slot,
         packet,
         records,
@@ -90,16 +88,15 @@ fn with_packet(mut m: Made, s: &[u8], n: Numbers) -> Made {
     m
 }
 
-fn with_call(mut m: Made, s: &[u8]) -> Made {
-    let x = call::called(m.cluster, s);
+fn with_call(mut m: Made, s: &[u8], handled: bool) -> Made {
+    let x = call::called(m.cluster, s, handled);
     m.cluster = x;
     m
 }
 
-fn with_handling(mut m: Made, s: &[u8]) -> Made {
-    let x = call::handled(m.cluster, s);
-    m.cluster = x;
-    m
+// A call's text, which follows the word `handled` or stands alone.
+fn call_text(k: usize, s: &[u8]) -> &[u8] {
+    if k == 12 { rest(s) } else { s }
 }
 
 fn with_times(mut m: Made, s: &[u8], n: Numbers) -> Made {
@@ -121,78 +118,95 @@ fn with_replay(mut m: Made, s: &[u8]) -> Made {
     m
 }
 
-fn keeping(mut m: Made) -> Made {
-    let x = m.cluster;
-    m.kept = x;
-    m
-}
-
-// Commands that leave everything as it is; r follows the first word.
-fn printed(m: Made, k: usize, r: &[u8]) {
+// Commands that leave everything as it is; r follows the first word, and kept is the cluster that was set aside.
+fn printed(m: Made, kept: Cluster, k: usize, r: &[u8]) {
     match k {
         0 => print::line(r),
         1 => print::text(r),
-        2 => show::shown(m.cluster, m.kept, r),
-        3 => call::tried(m.cluster, r),
-        4 => call::inside(m.cluster, r),
-        5 => call::outside(m.cluster, r),
+        2 => show::shown(m.cluster, kept, r),
+        3 | 4 | 5 => call::tried(m.cluster, k, r),
         6 => reasons::asked(m.cluster, r),
         _ => {}
     }
 }
 
-// The numbers of the command are n; a command of no other word is a call.
-fn changed(m: Made, k: usize, s: &[u8], r: &[u8], n: Numbers) -> Made {
+// Commands that make something; n are the command's numbers.
+fn changed(m: Made, k: usize, r: &[u8], n: Numbers) -> Made {
     match k {
         7 => nothing(),
-        8 => keeping(m),
+        8 => m,
         9 => with_lock(m, r, n),
         10 => with_slot(m, r, n),
         11 => with_packet(m, r, n),
-        12 => with_handling(m, r),
         13 => with_record(m, r, n),
         14 => with_replay(m, r),
         15 => making(r, n),
         16 => preferring(m, n),
         17 => with_times(m, r, n),
-        _ => with_call(m, s),
+        _ => m,
     }
 }
 
-// The words' places are the cases of `printed` and `changed`.
-fn command(m: Made, s: &[u8]) -> Made {
+// A command of no other word is a call, and so is what follows the word `handled`.
+fn is_call(k: usize) -> bool {
+    if k == 12 { true } else { 17 < k }
+}
+
+// The words' places are the cases of `printed` and `changed`. A call is not one of these: a drain needs the most room on the stack.
+fn command(m: Made, kept: Cluster, s: &[u8]) -> Made {
     let k = line::place(
         s,
         0,
         b"*say *bound *show *try *inside *outside *reason *fresh *keep *lock *agent *packet *handled *record *replay *make *prefer *times",
     );
     if k < 7 {
-        printed(m, k, rest(s));
+        printed(m, kept, k, rest(s));
         return m;
     }
-    changed(m, k, s, rest(s), line::numbers_in(s))
+    if is_call(k) {
+        return with_call(m, call_text(k, s), k == 12);
+    }
+    changed(m, k, rest(s), line::numbers_in(s))
 }
 
-// A comment or nothing, or a command.
-fn line_of(m: Made, s: &[u8]) -> Made {
+// A command's text: without the blank in front, and nothing of a comment.
+fn text_of(s: &[u8]) -> &[u8] {
+    if s.len() == 0 {
+        return s;
+    }
+    if s[0] == b'#' {
+        return &s[..0];
+    }
+    if s[0] == b' ' {
+        return &s[1..];
+    }
+    s
+}
+
+fn done(m: Made, kept: Cluster, s: &[u8]) -> Made {
     if s.len() == 0 {
         return m;
     }
-    if s[0] == b'#' {
-        return m;
-    }
-    if s[0] == b' ' {
-        return command(m, &s[1..]);
-    }
-    command(m, s)
+    command(m, kept, s)
 }
 
+// After these commands it is this cluster that was set aside.
+fn keeps(s: &[u8]) -> bool {
+    line::place(s, 0, b"*fresh *make *keep") < 3
+}
+
+// The cluster that is set aside is no part of what is made: each step would copy it.
 pub fn run(s: &[u8]) {
     let mut m = nothing();
+    let mut kept = m.cluster;
     let mut i: usize = 0;
     while i < s.len() {
         let j = line::command_end(s, i);
-        m = line_of(m, &s[i..j]);
+        let t = text_of(&s[i..j]);
+        m = done(m, kept, t);
+        if keeps(t) {
+            kept = m.cluster;
+        }
         i = j + 1;
     }
 }

@@ -165,24 +165,7 @@ module _ (pref : ℕ) (r : LockState) (rest : List Packet) (i : Inv r) (k : Mach
       held-none = unfold holdF in rw e
 
   keep-unnoted : statusAt r (c .0) ≡ Idle → Keeps r k c rest (withNote (siteOf pref r k c) false) []
-  unfolding tally askM markM owedM releaseM markAll queuedS listedS agentS incarnationS
-  keep-unnoted e =
-      keep-mild i
-      (record {
-        frame = framed sp kk refl refl refl;
-        status = plainly-is (clientIn r (c .0)) (statusAt r (c .0)) refl (grant-unnoted _ i refl sp);
-        asks = λ d m. omega (arith, hit-idle r i c n e d m);
-        fewer = λ d m. omega arith;
-        presence = λ d. omega (arith, hits d c n);
-        rels = λ d. omega arith;
-        owed = λ q d. omega arith;
-        agent = omega arith;
-        incs = λ x h. omega (arith, h);
-        fitting = refl;
-        slot = i .homes (k .0);
-        reach = refl;
-        vacancy = vacancy-by (slotAt r (k .0)) [] i sp kk refl (omega arith);
-      })
+  keep-unnoted e = rw e (keep-idle e)
 
   pub keep-lost : Good r k c rest (grantIsLost (siteOf pref r k c))
   unfolding grantIsLost

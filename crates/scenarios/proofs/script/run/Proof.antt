@@ -5,5 +5,5 @@ use Rattle.scenarios.proofs.script.run.Statement.{statement}
 use Rattle.scenarios.proofs.script.run.Tie as tie
 
 pub run-spec : {M : Type 1} → statement M
-run-spec = tie.close (tie.spec (λ _ _ _ _ _. Unit) (λ s _ _ _ i. length s - i) (search needs) (search needs) (search needs) (search needs) (search needs)
-    (search needs) (search needs) (search needs) (search needs) (search needs) (search needs))
+run-spec = tie.close (tie.spec (λ _ _ _ _ _ _ _. Unit) (λ s _ _ _ _ _ i. length s - i) (search needs) (search needs) (search needs) (search needs)
+    (search needs) (search needs) (search needs) (search needs) (search needs) (search needs) (search needs) (search needs) (search needs))
