@@ -44,7 +44,7 @@ module _ (pref : ℕ) (r : LockState) (i : Inv r) (c : ClientId) (cl : c .0 < cl
   unasked Shared = omega (arith, tally-le (λ p. askM (c .0) Shared (p .message)) (λ p. namesM (c .0) (p .message)) (λ p. omega arith) ps, unnamed)
 
   -- it asks for nothing, and no agent lists it
-  absent-now : weight (waitingP (c .0) Exclusive) (queuedS (c .0) Exclusive) r + weight (waitingP (c .0) Shared) (queuedS (c .0) Shared) r
+  pub absent-now : weight (waitingP (c .0) Exclusive) (queuedS (c .0) Exclusive) r + weight (waitingP (c .0) Shared) (queuedS (c .0) Shared) r
       + weight (listedP (c .0)) (listedS (c .0)) r ≡ 0
   unfolding idleF
   absent-now = omega (arith, rw id at (i .presence (c .0)), owes-list (c .0) ps, unasked Exclusive, unasked Shared, unreleased)

@@ -53,5 +53,6 @@ pub mod WritersFirst
 pub mod Naming
 -- ---- how often a packet has circled
 pub mod Circling
--- ---- lost grants and giving up
+-- ---- lost grants and giving up, and what is left of who gave up
 pub mod GivingUp
+pub mod Remains

@@ -1,6 +1,6 @@
--- What is proved, in Theorems, Drains, Listings, Counts, Reasons, FirstCome, Handlings, Preferences, WritersFirst, Naming, Circling and GivingUp: of the
--- numbers of answers, and of every list of calls on a fresh cluster, made with any preference n, as given: one above 1 is refused, and the cluster beside that
--- prefers readers. Past the last, a lock reads as fresh and a client as idle.
+-- What is proved, in Theorems, Drains, Listings, Counts, Reasons, FirstCome, Handlings, Preferences, WritersFirst, Naming, Circling, GivingUp and Remains:
+-- of the numbers of answers, and of every list of calls on a fresh cluster, made with any preference n, as given: one above 1 is refused, and the cluster
+-- beside that prefers readers. Past the last, a lock reads as fresh and a client as idle.
 use Rattle.model.specs.Drain.{allowance, Quiescent, drainCalls, drain}
 use Rattle.model.specs.Trace.{isAccepted, grantsIn, givenUpIn}
 use Rattle.model.specs.Refusals.{first}
@@ -401,3 +401,14 @@ pub record LosesAndGivesUp (x : Cluster) (l : LockId) : Type 0 where
       → StaysIdle (lockIn x l) (lockIn (deliver x l i .cluster) l) i k c m
   pub goes-round : (i : ℕ) (c : ClientId) → lockIn x l .decider .owner ≡ Unowned → packetAt (lockIn x l) i .to ≡ ToDecider
       → packetAt (lockIn x l) i .message ≡ Release c → GoesRound x l i
+
+-- And after a list, of an idle client that no packet on the lock's wire names nothing is left there: no agent, on a machine or in a packet, lists it or has it
+-- in its queue. So who may ask again, since refusal 6 does not apply, begins afresh.
+pub record NothingLeft (s : LockState) (c : ClientId) : Type 0 where
+  pub on-machine : (k : MachineId) → (lists (agentOn s k) c ≡ false) × (queues (agentOn s k) c ≡ false)
+  pub in-packet : (i : ℕ) → (lists (packetAt s i .carried) c ≡ false) × (queues (packetAt s i .carried) c ≡ false)
+
+abbrev pub LeavesNothing : ℕ → List Call → Type 0
+LeavesNothing n cs =
+    (l : LockId) (c : ClientId) → c .0 < clients → phaseAfter n l c cs ≡ Idle → any (names c) (packets (lockIn (after n cs) l .wire)) ≡ false
+    → NothingLeft (lockIn (after n cs) l) c

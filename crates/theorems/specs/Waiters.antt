@@ -87,7 +87,7 @@ few-joined Exclusive hs c ws h z = rw (none-leaves ws .0) (le-leb (tally flag (s
 few-joined Shared hs c ws h z = refl
 
 -- ---- room in a queue: each of all-clients clients stands in it at most once, and the client that comes not at all
-any-none : (c : ClientId) (ws : List Waiter) → tally (oneW (c .0)) ws ≡ 0 → any (isClient c) ws ≡ false
+pub any-none : (c : ClientId) (ws : List Waiter) → tally (oneW (c .0)) ws ≡ 0 → any (isClient c) ws ≡ false
 unfolding tally one
 any-none c [] e = refl
 any-none c (w ∷ ws) e = bool-cases (eqb (w .client .0) (c .0)) (λ q. absurd (omega (arith, rw q at e))) (λ q. rw q (any-none c ws (omega (arith, rw q at e))))
