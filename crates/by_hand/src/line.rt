@@ -13,7 +13,7 @@ const NOWHERE: usize = 99;
 const TOO_MANY: usize = 9;
 
 // How many numbers a text has, and the first of them; 0 for one that it does not have.
-#[derive(Drop)]
+#[derive(Clone, Copy, Drop)]
 pub struct Numbers {
     pub count: usize,
     pub first: u8,
@@ -23,7 +23,7 @@ pub struct Numbers {
 }
 
 // The numbers read so far; whether the last byte was a digit.
-#[derive(Drop)]
+#[derive(Clone, Copy, Drop)]
 struct Digits {
     values: [u8; MOST],
     count: usize,

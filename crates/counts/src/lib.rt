@@ -1,4 +1,6 @@
 // The two counts of any lock state, made by hand or not: its agents, and the marked ACQUIREs on its wire. docs/why-49.md says what they are for.
+#![tactic(auto)]
+
 ghost use Rattle.std.specs.Prelude.{◌≡◌, ◌≤◌, take};
 ghost use Rattle.model.specs.Lists.{count};
 ghost use Rattle.model.specs.States.{machines, wire_capacity};

@@ -1,5 +1,7 @@
 // Deliveries at the decider. Parameters of a rule: v the site, p the packet, o the owner, c the client, m its mode, k the owner's machine, a the agent.
 // In a contract a name is the model's; `verdict_of` (rules/specs/Effects.antt) reads an Effect as the model's Verdict.
+#![tactic(auto)]
+
 ghost use Rattle.std.specs.Prelude.{◌≡◌, true, false, ◌==◌};
 ghost use Rattle.model.specs.AtDecider.{sent_on, to_owner, decides_release, grants_with, grants_first, may_share, shares, rejected_to, noting, decides_acquire};
 ghost use Rattle.model.specs.AtDecider.{decides_free, decides_grant, decides, at_decider};

@@ -1,4 +1,6 @@
 // The digest of docs/random-runs.md: 'Numbers and digest' and 'The bytes of a cluster'. Each function goes on from h over the bytes of its part.
+#![tactic(auto)]
+
 ghost use Rattle.std.specs.Prelude.{◌≡◌, [], ◌∷◌, take};
 ghost use Rattle.model.specs.declared.Status.TheVariants.{Holding};
 ghost use Rattle.model.specs.declared.ReasonAnswer.TheVariants.{Because};

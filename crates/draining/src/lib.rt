@@ -1,5 +1,7 @@
 // The drain of one lock's state. Each phase makes its steps in a loop and only then hands over to the other: a call for each step
 // would not fit the stack.
+#![tactic(auto)]
+
 ghost use Rattle.std.specs.Prelude.{◌≡◌, true, false, ◌<◌};
 ghost use Rattle.model.specs.States.{locks};
 ghost use Rattle.model.specs.WellFormed.{well_formed};
@@ -20,13 +22,13 @@ use planning::plan::{Plan, carry_out};
 use planning::steps::{plan_deliver, plan_give_up, plan_release};
 
 // The last handling that a step told.
-#[derive(Drop)]
+#[derive(Clone, Copy, Drop)]
 pub(crate) struct Told {
     pub(crate) handling: Handling,
 }
 
 // How far the drain of one lock's state came, in a cluster with this preference: the steps that are left, what they told and, where it has ended, its answer.
-#[derive(Drop)]
+#[derive(Clone, Copy, Drop)]
 pub(crate) struct Draining {
     pub(crate) preference: u8,
     pub(crate) ended: bool,
@@ -37,7 +39,7 @@ pub(crate) struct Draining {
 }
 
 // With an empty wire it is a client's turn: to release what it holds or, where lost is true, to give up. A number past the last is nobody's.
-#[derive(Drop)]
+#[derive(Clone, Copy, Drop)]
 pub(crate) struct Turn {
     pub(crate) client: ClientId,
     pub(crate) lost: bool,

@@ -1,5 +1,7 @@
 // The calls on a cluster. Each is, for every cluster and all arguments, the call of the model. A call tests the whole cluster once; runs of calls,
 // which know that a cluster stays well formed, take the steps on one lock in the crate `lock_calls`.
+#![tactic(auto)]
+
 ghost use Rattle.std.specs.Prelude.{◌≡◌, true, ◌<◌};
 ghost use Rattle.model.specs.States.{locks};
 ghost use Rattle.model.specs.WellFormed.{well_formed};

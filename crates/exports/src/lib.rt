@@ -1,4 +1,6 @@
 // What the benchmark in bench/ links: each function runs a transcript, or repeats a call on the cluster that it leads to, and answers a number.
+#![tactic(auto)]
+
 ghost use Rattle.std.specs.Prelude.{◌≡◌, ◌+◌, ◌*◌, ◌%◌, ◌^◌};
 ghost use Rattle.model.specs.Calls.{fresh};
 ghost use Rattle.model.specs.Drain.{drain};

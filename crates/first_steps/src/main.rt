@@ -1,4 +1,6 @@
 // The library at work: a reader asks for lock 0, its packet reaches the decider, and the lock is drained. Prints each answer and the drain's steps.
+#![tactic(auto)]
+
 use model::{LockId, MachineId, TaskId};
 
 fn print(n: u16) {

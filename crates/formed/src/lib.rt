@@ -1,5 +1,7 @@
 // Well-formedness: the test of refusal 11. A loop joins its tests by `&` and has no early return: nearly always all of them hold, and a loop without a way
 // out is compiled to a few wide operations. Between two loops stands an `if`: joined by `&`, what they found would be put together bit by bit.
+#![tactic(auto)]
+
 ghost use Rattle.std.specs.Prelude.{◌≡◌, ◌&&◌, ◌||◌, not, ◌≤◌, length, take, eqb};
 ghost use Rattle.model.specs.Lists.{all};
 ghost use Rattle.model.specs.States.{locks, machines, clients, queue_capacity, wire_capacity, is_shared};

@@ -1,5 +1,7 @@
 // The program inspect: runs a transcript from standard input on a fresh cluster, whose preference is the first argument, 0 without one, and writes a line of
 // JSON for each record, with its lock's whole state after it, and one for how the run ended. docs/inspect.md has the fields.
+#![tactic(auto)]
+
 mod lines;
 mod objects;
 mod preference;

@@ -1,4 +1,6 @@
 // A lock's state in JSON. Each function puts its part behind what is in the buffer and gives the next position.
+#![tactic(auto)]
+
 use listing::{put_decimal, put_text};
 use model::{
     Address, Agent, AgentSlot, CLIENTS, ClientId, ClientState, Decider, LockState, MACHINES,

@@ -1,5 +1,7 @@
 // The bytes of the listing, put into a lent buffer as far as it goes. Each function takes the position behind what is there and gives the next;
 // at the buffer's end nothing more is written.
+#![tactic(auto)]
+
 ghost use Rattle.std.specs.Prelude.{◌≡◌, [], ◌∷◌, ◌<◌};
 ghost use Rattle.model.specs.Listing.{digit, digit_of, decimal, column, header, wire_column, line_of, refused_line, filled, put};
 

@@ -1,6 +1,8 @@
 // The calls on one lock's state that is known to be well formed, for runs of calls: the cluster is tested once, and every call keeps it well formed
 // (laws/specs/Clusters.antt). What is left of a call are its tests on that state, and its step. `plan_call` gives the answer and what is to be
 // written, and writes nothing; `carry_out` makes an accepted step; `lock_of` is the call's lock, whose range the caller tests.
+#![tactic(auto)]
+
 ghost use Rattle.std.specs.Prelude.{◌≡◌, true, ◌||◌, not, List, ◌<◌, eqb};
 ghost use Rattle.model.specs.States.{machines, tasks, client_of, mode_of};
 ghost use Rattle.model.specs.WellFormed.{to_decider, lock_formed};

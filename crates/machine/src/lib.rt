@@ -1,4 +1,6 @@
 // Deliveries at a machine. v is the site.
+#![tactic(auto)]
+
 ghost use Rattle.std.specs.Prelude.{◌≡◌, ◌≤◌, ◌||◌, [], take};
 ghost use Rattle.model.specs.States.{queue_capacity, waiters, some_agent};
 ghost use Rattle.model.specs.Changes.{with_slot, does};
@@ -24,7 +26,7 @@ use rules::leaving::{leave, listed};
 use rules::site::{with_slot, with_status};
 
 // A shared agent is installed, and its queue's waiters are gone through: the holders with those who joined, who stays in the queue, who left it.
-#[derive(Drop)]
+#[derive(Clone, Copy, Drop)]
 struct Admission {
     pub holders: [bool; CLIENTS],
     pub staying: Queue,

@@ -1,4 +1,6 @@
 // A cluster is made, or what was called is refused.
+#![tactic(auto)]
+
 ghost use Rattle.std.specs.Prelude.{◌≡◌, []};
 ghost use Rattle.model.specs.States.{wire_of, fresh_lock, fresh_with};
 ghost use Rattle.model.specs.Calls.{refusing, fresh};

@@ -1,5 +1,7 @@
 // The types of the simulated cluster. What document 01 rules out by its bounds is, where a type can say it, not representable;
 // the rest is `well_formed` in specs/WellFormed.antt.
+#![tactic(auto)]
+
 ghost use Rattle.std.specs.Prelude.{◌≡◌};
 ghost use Rattle.model.specs.Refusals.{refusal_number, number};
 ghost use Rattle.model.specs.Reasons.{reason_number};
@@ -25,54 +27,54 @@ pub const PREFERENCES: u8 = 2;
 pub const ALLOWANCE: u16 = 32768;
 
 // The source's lid, mid and tid: no place that wants one takes another.
-#[derive(Drop)]
+#[derive(Clone, Copy, Drop)]
 pub struct LockId(pub u8);
 
-#[derive(Drop)]
+#[derive(Clone, Copy, Drop)]
 pub struct MachineId(pub u8);
 
-#[derive(Drop)]
+#[derive(Clone, Copy, Drop)]
 pub struct TaskId(pub u8);
 
 // A machine and a task: 4 × machine + task.
-#[derive(Drop)]
+#[derive(Clone, Copy, Drop)]
 pub struct ClientId(pub u8);
 
-#[derive(Drop)]
+#[derive(Clone, Copy, Drop)]
 pub enum Mode {
     Exclusive,
     Shared,
 }
 
 // A decider's mode and the machine of the agent, which is nil exactly when the lock is free.
-#[derive(Drop)]
+#[derive(Clone, Copy, Drop)]
 pub enum Owner {
     Free,
     Owned(Mode, MachineId),
 }
 
 // writer: the source's ww, an exclusive request is known to wait.
-#[derive(Drop)]
+#[derive(Clone, Copy, Drop)]
 pub struct Decider {
     pub owner: Owner,
     pub incarnation: u8,
     pub writer: bool,
 }
 
-#[derive(Drop)]
+#[derive(Clone, Copy, Drop)]
 pub struct Waiter {
     pub client: ClientId,
     pub mode: Mode,
 }
 
 // The first len slots count, the others are blank; so too of a wire.
-#[derive(Drop)]
+#[derive(Clone, Copy, Drop)]
 pub struct Queue {
     pub slots: [Waiter; QUEUE_CAPACITY],
     pub len: u8,
 }
 
-#[derive(Drop)]
+#[derive(Clone, Copy, Drop)]
 pub struct Agent {
     pub mode: Mode,
     pub holders: [bool; CLIENTS],
@@ -81,20 +83,20 @@ pub struct Agent {
 }
 
 // An agent or none, on a machine and inside a packet.
-#[derive(Drop)]
+#[derive(Clone, Copy, Drop)]
 pub struct AgentSlot {
     pub present: bool,
     pub agent: Agent,
 }
 
-#[derive(Drop)]
+#[derive(Clone, Copy, Drop)]
 pub enum Address {
     Decider,
     Machine(MachineId),
 }
 
 // Free stands first: the machine's default value is then a blank packet's.
-#[derive(Drop)]
+#[derive(Clone, Copy, Drop)]
 pub enum Message {
     Free,
     Acquire {
@@ -112,7 +114,7 @@ pub enum Message {
 }
 
 // Document 01's 'turned back' is rejected: the decider refused the packet. circled: how often a machine has sent it back, or 255 where it was more often.
-#[derive(Drop)]
+#[derive(Clone, Copy, Drop)]
 pub struct Packet {
     pub message: Message,
     pub to: Address,
@@ -121,13 +123,13 @@ pub struct Packet {
     pub carried: AgentSlot,
 }
 
-#[derive(Drop)]
+#[derive(Clone, Copy, Drop)]
 pub struct Wire {
     pub slots: [Packet; WIRE_CAPACITY],
     pub len: u8,
 }
 
-#[derive(Drop)]
+#[derive(Clone, Copy, Drop)]
 pub enum Status {
     Idle,
     Waiting(Mode),
@@ -135,7 +137,7 @@ pub enum Status {
 }
 
 // lost: it waits, and its GRANT was lost.
-#[derive(Drop)]
+#[derive(Clone, Copy, Drop)]
 pub struct ClientState {
     pub status: Status,
     pub lost: bool,
@@ -143,7 +145,7 @@ pub struct ClientState {
 
 // What a step looks at: the cluster's preference; and what it may write of a lock's record: the decider, one machine's agent or none, one client's status
 // and its note.
-#[derive(Drop)]
+#[derive(Clone, Copy, Drop)]
 pub struct Site {
     pub preference: u8,
     pub decider: Decider,
@@ -153,7 +155,7 @@ pub struct Site {
 }
 
 // A lock's record in document 01. The wire, nine tenths of it, comes first: so the compiler makes a new state where it is to be, and saves a copy.
-#[derive(Drop)]
+#[derive(Clone, Copy, Drop)]
 pub struct LockState {
     pub wire: Wire,
     pub decider: Decider,
@@ -162,14 +164,14 @@ pub struct LockState {
 }
 
 // The bench in document 01. Its preference, 0 for readers and 1 for writers, is as given when it was made.
-#[derive(Drop)]
+#[derive(Clone, Copy, Drop)]
 pub struct Cluster {
     pub preference: u8,
     pub locks: [LockState; LOCKS],
 }
 
 // A call as data. Its numbers are as given, in range or not.
-#[derive(Drop)]
+#[derive(Clone, Copy, Drop)]
 pub enum Call {
     Acquire {
         lock: LockId,
@@ -198,7 +200,7 @@ pub enum Call {
 }
 
 // One for each row of the table of refusals.
-#[derive(Drop)]
+#[derive(Clone, Copy, Drop)]
 pub enum Refusal {
     Malformed,
     LockRange,
@@ -220,7 +222,7 @@ pub enum Refusal {
     CannotLose,
 }
 
-#[derive(Drop)]
+#[derive(Clone, Copy, Drop)]
 pub enum Answer {
     Accepted,
     Refused(Refusal),
@@ -228,7 +230,7 @@ pub enum Answer {
 
 // Why a client waits: its ACQUIRE, its GRANT or its rejected GRANT is on the wire, at an index; or it stands in the queue of the agent on a machine, or of
 // the one carried by the packet at an index, with so many ahead; or its GRANT was lost.
-#[derive(Drop)]
+#[derive(Clone, Copy, Drop)]
 pub enum Reason {
     Requested { index: u8 },
     Granted { index: u8 },
@@ -239,14 +241,14 @@ pub enum Reason {
 }
 
 // What the question for the reason is answered.
-#[derive(Drop)]
+#[derive(Clone, Copy, Drop)]
 pub enum ReasonAnswer {
     Because(Reason),
     Refused(Refusal),
 }
 
 // What a search comes to: nowhere, or the index of what it found.
-#[derive(Drop)]
+#[derive(Clone, Copy, Drop)]
 pub enum Found {
     Nowhere,
     At(u8),
@@ -254,7 +256,7 @@ pub enum Found {
 
 // What a machine made of an ACQUIRE or RELEASE that was delivered to it: it has no agent; it has one that neither lists nor queues the client of the
 // RELEASE; or it took it. None: the step was no such delivery, or was refused.
-#[derive(Drop)]
+#[derive(Clone, Copy, Drop)]
 pub enum Handling {
     None,
     NoAgent,
@@ -263,7 +265,7 @@ pub enum Handling {
 }
 
 // What a step on one lock gives.
-#[derive(Drop)]
+#[derive(Clone, Copy, Drop)]
 pub struct Stepped {
     pub answer: Answer,
     pub handling: Handling,
@@ -271,7 +273,7 @@ pub struct Stepped {
 }
 
 // What a call gives.
-#[derive(Drop)]
+#[derive(Clone, Copy, Drop)]
 pub struct Outcome {
     pub answer: Answer,
     pub handling: Handling,
@@ -279,7 +281,7 @@ pub struct Outcome {
 }
 
 // What a drain gives: the steps taken, 0 where it is refused, and the last handling that one of them gave.
-#[derive(Drop)]
+#[derive(Clone, Copy, Drop)]
 pub struct Drained {
     pub answer: Answer,
     pub count: u16,
@@ -288,7 +290,7 @@ pub struct Drained {
 }
 
 // What stands at a position of a transcript.
-#[derive(Drop)]
+#[derive(Clone, Copy, Drop)]
 pub enum Reading {
     Record { call: Call, next: usize },
     Bad,
@@ -297,7 +299,7 @@ pub enum Reading {
 
 // What the run of a transcript gives: the count of its records, the number of the bad one, or 0 where it is too long; and the last handling that a record's
 // step gave.
-#[derive(Drop)]
+#[derive(Clone, Copy, Drop)]
 pub struct Replayed {
     pub answer: Answer,
     pub records: u16,

@@ -1,4 +1,6 @@
 // The parts of a lock's state, read and written: agents, holders and the wire; for queues there is the crate `queues`.
+#![tactic(auto)]
+
 pub mod blank;
 pub mod holders;
 pub mod search;

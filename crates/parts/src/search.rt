@@ -12,7 +12,7 @@ use crate::wire::message_names;
 use model::{ClientId, Found, Message, Packet, WIRE_CAPACITY, Wire};
 
 // Which packet of the client: any that names it, its request, its grant, its grant that was rejected.
-#[derive(Drop)]
+#[derive(Clone, Copy, Drop)]
 pub enum Sought {
     Named,
     Request,

@@ -122,7 +122,7 @@ fn apply(k: MachineId, u: ClientId, e: Effect, rest: Wire, s: LockState) -> Lock
 
 // A step before it is made: its answer and the handling that it tells; where it is accepted, the index of the packet taken off the wire, the machine and the
 // client concerned, and the effect.
-#[derive(Drop)]
+#[derive(Clone, Copy, Drop)]
 pub struct Plan {
     pub answer: Answer,
     pub handling: Handling,

@@ -1,4 +1,6 @@
 // A queue of waiters, in the first slots of an array.
+#![tactic(auto)]
+
 ghost use Rattle.std.specs.Prelude.{◌≡◌, ◌&&◌, [], ◌∷◌, ◌++◌, ◌<◌, ◌≤◌, take, get_or};
 ghost use Rattle.model.specs.Lists.{any, removed, IsFirst};
 ghost use Rattle.model.specs.States.{queue_capacity, blank_waiter, queue_of, waiters, prefers_writers};

@@ -5,7 +5,7 @@ use lock_calls::can_be_lost;
 use model::{Cluster, LockState, Packet, Status, TASKS, WIRE_CAPACITY, Wire};
 
 // The kind is 1 acquire, 2 release, 3 deliver, 6 lose or 7 give up; the call takes of the arguments those it has.
-#[derive(Drop)]
+#[derive(Clone, Copy, Drop)]
 pub struct Choice {
     pub kind: u8,
     pub lock: u8,

@@ -1,7 +1,7 @@
 // docs/random-runs.md, 'Hand-made states': what a fault is and where.
 
 // The page's f, v and t: which fault, a number for it, and where it is. The number is below 239, so that no sum with it wraps.
-#[derive(Drop)]
+#[derive(Clone, Copy, Drop)]
 pub struct Fault {
     pub kind: u8,
     pub value: u8,

@@ -27,7 +27,7 @@ pub fn draw(s: &mut u32, n: u16) -> u8
 }
 
 // The eight outputs of a step.
-#[derive(Drop)]
+#[derive(Clone, Copy, Drop)]
 pub struct Outputs {
     pub o0: u16,
     pub o1: u16,

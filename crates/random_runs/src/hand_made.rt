@@ -184,7 +184,7 @@ fn packet_count(kind: u8, i: u8) -> u8
 }
 
 // A lock with its fault, which item 1 gives with the number of its packets.
-#[derive(Drop)]
+#[derive(Clone, Copy, Drop)]
 struct Drawn {
     fault: Fault,
     lock: LockState,

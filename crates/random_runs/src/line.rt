@@ -1,7 +1,7 @@
 // A line of output, made in one buffer and written by one call.
 use libc::STDOUT_FILENO;
 
-#[derive(Drop)]
+#[derive(Clone, Copy, Drop)]
 pub struct Line {
     bytes: [u8; 128],
     len: u8,

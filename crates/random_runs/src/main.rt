@@ -1,4 +1,6 @@
 // The program of docs/random-runs.md without its transcripts: the lines of all runs, then of all hand-made states.
+#![tactic(auto)]
+
 mod agent;
 mod choice;
 mod fault;

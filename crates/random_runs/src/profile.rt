@@ -1,7 +1,7 @@
 // docs/random-runs.md, 'A step': the table of profiles.
 use model::{Address, Message, Packet};
 
-#[derive(Drop)]
+#[derive(Clone, Copy, Drop)]
 pub struct Profile {
     pub steps: u16,
     pub locks: u16,

@@ -9,7 +9,7 @@ use model::{
 use parts::search::first_naming;
 
 // What goes on from step to step, beside the generator.
-#[derive(Drop)]
+#[derive(Clone, Copy, Drop)]
 pub struct Progress {
     cluster: Cluster,
     digest: u32,

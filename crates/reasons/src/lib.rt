@@ -1,4 +1,6 @@
 // Why a client waits, in any state of a lock, made by hand or not: the first true of document 02's reasons, each at its lowest index or machine.
+#![tactic(auto)]
+
 ghost use Rattle.std.specs.Prelude.{◌≡◌, take};
 ghost use Rattle.model.specs.declared.Reason.TheVariants.{Carried};
 ghost use Rattle.model.specs.Lists.{IsFirst};

@@ -5,7 +5,7 @@ ghost use Rattle.model.specs.Transcripts.{read_record};
 use crate::record::read_record;
 use model::Reading;
 
-#[derive(Drop)]
+#[derive(Clone, Copy, Drop)]
 pub struct Reader<'a> {
     pub bytes: &'a [u8],
     pub at: usize,

@@ -1,4 +1,6 @@
 // The program replay: runs a transcript from standard input on a fresh cluster, which prefers readers, and writes its listing.
+#![tactic(auto)]
+
 use libc::{STDIN_FILENO, STDOUT_FILENO};
 
 // No listing is longer (`longest_listing`, theorems/specs/Statements.antt).

@@ -9,7 +9,7 @@ use model::{Packet, Queue, Site, Status};
 use parts::blank::{blank_packet, empty_queue, no_agent, unowned};
 
 // Packets sent: the first, or both, or none of two, and then a GRANT for each waiter admitted.
-#[derive(Drop)]
+#[derive(Clone, Copy, Drop)]
 pub struct Sends {
     pub count: u8,
     pub first: Packet,
@@ -18,7 +18,7 @@ pub struct Sends {
 }
 
 // placed: the step can be placed; site: what it writes.
-#[derive(Drop)]
+#[derive(Clone, Copy, Drop)]
 pub struct Effect {
     pub placed: bool,
     pub site: Site,

@@ -1,4 +1,6 @@
 // Whether two clusters are the same in all their parts, the unused slots of queues and wires and the agents that are not there among them.
+#![tactic(auto)]
+
 ghost use Rattle.std.specs.Prelude.{◌≡◌, false};
 ghost use Rattle.model.specs.States.{mode_number};
 ghost use Rattle.same.specs.Decides.{Decides};
@@ -11,7 +13,7 @@ use model::{
 
 // ---- enums, by their numbers
 // Which variant it is, and what it holds: a machine or a client, a mode, a mark; 0 and false for what it does not hold.
-#[derive(Drop)]
+#[derive(Clone, Copy, Drop)]
 pub struct Code {
     pub variant: u8,
     pub id: u8,

@@ -6,7 +6,7 @@ use model::{Call, Cluster, Handling, LockId, MachineId, Outcome, TaskId};
 use std::num::wrapping_add_u8;
 
 // A call's answer, the handling and the cluster that it gives; of a drain, the steps.
-#[derive(Drop)]
+#[derive(Clone, Copy, Drop)]
 struct Done {
     known: bool,
     answer: u8,

@@ -1,5 +1,7 @@
 // Runs the script on standard input, which makes states by hand, calls on them and prints the answers. The file stdin is the script, and says at its
 // top what a script has; the file stdout was written by hand from documents 01 and 02.
+#![tactic(auto)]
+
 mod call;
 mod handlings;
 mod reasons;

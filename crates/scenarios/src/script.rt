@@ -6,7 +6,7 @@ use by_hand::{agents, line, locks, packets, print};
 use model::{AgentSlot, Cluster, LOCKS, Packet};
 
 // The cluster of the next call, and the agent, the packet and the transcript in the making.
-#[derive(Drop)]
+#[derive(Clone, Copy, Drop)]
 pub struct Made {
     pub cluster: Cluster,
     pub slot: AgentSlot,

@@ -8,7 +8,7 @@ use transcript::run;
 // Room for sixteen records.
 const ROOM: usize = 128;
 
-#[derive(Drop)]
+#[derive(Clone, Copy, Drop)]
 pub struct Records {
     bytes: [u8; ROOM],
     len: u8,

@@ -1,1 +1,2 @@
 // Theorems about the model's definitions alone. It has no code.
+#![tactic(auto)]

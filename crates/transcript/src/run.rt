@@ -13,7 +13,7 @@ use model::{Answer, Call, Cluster, Handling, LOCKS, Reading, Refusal, Replayed};
 use records::reader::read_at;
 
 // The run's outcome, and the position behind its listing in the caller's buffer.
-#[derive(Drop)]
+#[derive(Clone, Copy, Drop)]
 pub struct Listed {
     pub outcome: Replayed,
     pub written: usize,
