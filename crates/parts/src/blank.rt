@@ -16,6 +16,7 @@ pub fn blank_waiter() -> Waiter
     }
 }
 
+#[tactic(auto, unfolding(model::specs::States::queue_of, model::specs::Lists::padded))]
 pub fn empty_queue() -> Queue
     ensures { result ≡ queue_of [] }
 {
@@ -47,6 +48,7 @@ pub fn some_agent(a: Agent) -> AgentSlot
     }
 }
 
+#[tactic(auto, unfolding(model::specs::States::no_agent))]
 pub fn no_agent() -> AgentSlot
     ensures { result ≡ no_agent }
 {
@@ -110,6 +112,7 @@ pub fn resent(p: Packet, t: Address, b: bool) -> Packet
     }
 }
 
+#[tactic(auto, unfolding(model::specs::States::blank_packet))]
 pub fn blank_packet() -> Packet
     ensures { result ≡ blank_packet }
 {

@@ -94,6 +94,7 @@ pub fn first_packet(a: [Packet; WIRE_CAPACITY], len: u8, k: Sought, c: ClientId)
 }
 
 // The first packet of the wire that names the client.
+#[tactic(auto, unfolding(model::specs::States::packets))]
 pub fn first_naming(w: Wire, c: ClientId) -> Found
     ensures { IsFirst (names c) (packets w) result }
 {

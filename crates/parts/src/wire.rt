@@ -34,6 +34,7 @@ fn left_of(n: u8, i: u8) -> u8
 }
 
 // The wire without the packet at i.
+#[tactic(auto, using(crate::specs::Writes::cut_off))]
 pub fn take_off(w: Wire, i: u8) -> Wire
     requires { CanonicalWire w }
     ensures { result ≡ wire_of (removed (packets w) i) }
@@ -47,6 +48,7 @@ pub fn take_off(w: Wire, i: u8) -> Wire
     }
 }
 
+#[tactic(auto, using(laws::specs::Shapes::packet_is))]
 pub fn packet_at(w: Wire, i: u8) -> Packet
     requires { (CanonicalWire w) × (i < w.len) }
     ensures { result ≡ get_or (packets w) i blank_packet }
