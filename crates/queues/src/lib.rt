@@ -15,6 +15,7 @@ use parts::blank::blank_waiter;
 use parts::holders::is_shared;
 use parts::used::used;
 
+#[tactic(auto, using(parts::specs::Writes::queued_at))]
 pub fn push(mut q: Queue, w: Waiter) -> Queue
     requires { (CanonicalQueue q) × (q.len < queue_capacity) }
     ensures { result ≡ queue_of (waiters q ++ w ∷ []) }
@@ -26,6 +27,7 @@ pub fn push(mut q: Queue, w: Waiter) -> Queue
     q
 }
 
+#[tactic(auto, using(laws::specs::Shapes::waiter_is))]
 pub fn first(q: Queue) -> Waiter
     requires { (CanonicalQueue q) × (0 < q.len) }
     ensures { result ≡ get_or (waiters q) 0 blank_waiter }
@@ -71,6 +73,7 @@ fn slide_waiters(a: [Waiter; QUEUE_CAPACITY], n: usize, w: Waiter) -> [Waiter; Q
     b
 }
 
+#[tactic(auto, using(parts::specs::Writes::fronted))]
 pub fn push_front(q: Queue, w: Waiter) -> Queue
     requires { (CanonicalQueue q) × (q.len < queue_capacity) }
     ensures { result ≡ queue_of (w ∷ waiters q) }
@@ -100,6 +103,7 @@ fn waiting_in(a: [Waiter; QUEUE_CAPACITY], n: usize, c: ClientId) -> bool
 }
 
 // The client stands in the agent's queue.
+#[tactic(auto, unfolding(model::specs::States::waiters))]
 pub fn queued(a: Agent, c: ClientId) -> bool
     requires { CanonicalQueue a.queue }
     ensures { result ≡ any (is_client c) (waiters a.queue) }
@@ -140,6 +144,7 @@ pub fn taken_off(q: Queue, c: ClientId) -> Queue
     }
 }
 
+#[tactic(auto, using(parts::specs::Writes::cut_out))]
 fn without_at(q: Queue, i: u8) -> Queue
     requires { (CanonicalQueue q) × (i < q.len) }
     ensures { result ≡ queue_of (removed (waiters q) i) }
@@ -154,6 +159,7 @@ fn without_at(q: Queue, i: u8) -> Queue
 }
 
 // The agent's queue cannot take the client: it stands there already, or the queue is full.
+#[tactic(auto, unfolding(model::specs::States::waiters))]
 pub fn no_room(a: Agent, c: ClientId) -> bool
     requires { CanonicalQueue a.queue }
     ensures { result ≡ no_room a c }
@@ -186,6 +192,7 @@ fn any_writer(a: [Waiter; QUEUE_CAPACITY], n: usize) -> bool
 }
 
 // A writer in the agent's queue comes first, in a cluster with the preference p: readers do not pass it.
+#[tactic(auto, unfolding(model::specs::States::waiters))]
 pub fn writer_first(p: u8, a: Agent) -> bool
     requires { CanonicalQueue a.queue }
     ensures { result ≡ (prefers_writers p && writer_in a) }
