@@ -17,6 +17,7 @@ use rules::leaving::machine_of;
 use rules::site::with_decider;
 
 // The decider may grant the request beside the holders: lock and request are both shared, and it knows of no writer.
+#[tactic(auto, unfolding(model::specs::AtDecider::may_share))]
 fn may_share(v: Site, m: Mode) -> bool
     ensures { result ≡ may_share v m }
 {
@@ -46,6 +47,7 @@ fn rejected_to(p: Packet, k: MachineId) -> Packet
     resent(p, Address::Machine(k), true)
 }
 
+#[tactic(auto, unfolding(model::specs::AtDecider::to_owner))]
 fn to_owner(o: Owner, v: Site, p: Packet) -> Effect
     ensures { verdict_of result ≡ to_owner o v p }
 {
@@ -56,6 +58,7 @@ fn to_owner(o: Owner, v: Site, p: Packet) -> Effect
 }
 
 // At a free lock a RELEASE goes to the wire's end, and comes again.
+#[tactic(auto, unfolding(model::specs::AtDecider::decides_release))]
 fn decides_release(o: Owner, v: Site, p: Packet) -> Effect
     ensures { verdict_of result ≡ decides_release o v p }
 {
@@ -137,6 +140,7 @@ fn noting(v: Site, m: Mode) -> Site
     with_decider(v, d)
 }
 
+#[tactic(auto, using(crate::specs::Marked::marked_sent))]
 fn decides_acquire(o: Owner, v: Site, p: Packet, c: ClientId, m: Mode, granted: bool) -> Effect
     ensures { verdict_of result ≡ decides_acquire o v p c m granted }
 {
@@ -147,6 +151,7 @@ fn decides_acquire(o: Owner, v: Site, p: Packet, c: ClientId, m: Mode, granted: 
     }
 }
 
+#[tactic(auto, unfolding(model::specs::AtDecider::decides_acquire))]
 fn decides_unmarked(o: Owner, v: Site, p: Packet, c: ClientId, m: Mode) -> Effect
     ensures { verdict_of result ≡ decides_acquire o v p c m false }
 {
@@ -169,6 +174,7 @@ fn is_current(d: Decider, p: Packet) -> bool
     p.carried.agent.incarnation == d.incarnation
 }
 
+#[tactic(auto, unfolding(model::specs::AtDecider::decides_free))]
 fn decides_free(o: Owner, v: Site, p: Packet) -> Effect
     ensures { verdict_of result ≡ decides_free o v p }
 {
@@ -186,6 +192,7 @@ fn decides_free(o: Owner, v: Site, p: Packet) -> Effect
 }
 
 // A GRANT with its agent.
+#[tactic(auto, unfolding(model::specs::AtDecider::decides_grant))]
 fn decides_agent(o: Owner, v: Site, p: Packet, c: ClientId, m: Mode) -> Effect
     requires { CanonicalQueue p.carried.agent.queue }
     ensures { verdict_of result ≡ decides_grant true o v p c m }
@@ -206,6 +213,7 @@ fn decides_agent(o: Owner, v: Site, p: Packet, c: ClientId, m: Mode) -> Effect
     }
 }
 
+#[tactic(auto, unfolding(model::specs::AtDecider::decides_grant))]
 fn decides_grant(o: Owner, v: Site, p: Packet, c: ClientId, m: Mode) -> Effect
     requires { CanonicalQueue p.carried.agent.queue }
     ensures { verdict_of result ≡ decides_grant p.carried.present o v p c m }
@@ -217,6 +225,7 @@ fn decides_grant(o: Owner, v: Site, p: Packet, c: ClientId, m: Mode) -> Effect
     }
 }
 
+#[tactic(auto, unfolding(model::specs::AtDecider::decides))]
 fn decides(m: Message, o: Owner, v: Site, p: Packet) -> Effect
     requires { CanonicalQueue p.carried.agent.queue }
     ensures { verdict_of result ≡ decides m o v p }
@@ -233,6 +242,7 @@ fn decides(m: Message, o: Owner, v: Site, p: Packet) -> Effect
     }
 }
 
+#[tactic(auto, unfolding(model::specs::AtDecider::at_decider))]
 pub fn at_decider(v: Site, p: Packet) -> Effect
     requires { CanonicalQueue p.carried.agent.queue }
     ensures { verdict_of result ≡ at_decider v p }

@@ -14,6 +14,7 @@ use parts::holders::{is_shared, join};
 use queues::{no_room, push, writer_first};
 
 // A request may join the holders of the site's agent: agent and request are both shared, and no writer in the queue comes first.
+#[tactic(auto, unfolding(model::specs::Asking::may_join))]
 pub fn may_join(v: Site, m: Mode) -> bool
     requires { CanonicalQueue v.slot.agent.queue }
     ensures { result ≡ may_join v m }
@@ -33,6 +34,7 @@ pub fn may_join(v: Site, m: Mode) -> bool
 }
 
 // The client joins the end of the agent's queue.
+#[tactic(auto, using(crate::specs::Room::room_left))]
 pub fn queue_last(v: Site, mut a: Agent, c: ClientId, m: Mode) -> Effect
     requires { CanonicalQueue a.queue }
     ensures { verdict_of result ≡ with_room a c (does (with_slot v (some_agent (queuing a c m))) []) }
@@ -47,6 +49,7 @@ pub fn queue_last(v: Site, mut a: Agent, c: ClientId, m: Mode) -> Effect
 }
 
 // The agent a is on the client's machine.
+#[tactic(auto, unfolding(model::specs::Asking::client_asks))]
 fn ask_agent(v: Site, a: Agent, c: ClientId, m: Mode) -> Effect
     requires { (CanonicalQueue v.slot.agent.queue) × (CanonicalQueue a.queue) }
     ensures { verdict_of result ≡ client_asks v c m true a }
@@ -61,6 +64,7 @@ fn ask_agent(v: Site, a: Agent, c: ClientId, m: Mode) -> Effect
 }
 
 // No agent is on the client's machine.
+#[tactic(auto, unfolding(model::specs::Asking::client_asks))]
 fn ask_decider(v: Site, c: ClientId, m: Mode) -> Effect
     ensures { (a : Agent) → verdict_of result ≡ client_asks v c m false a }
 {
@@ -76,6 +80,7 @@ fn ask_decider(v: Site, c: ClientId, m: Mode) -> Effect
     doing(w, one_packet(p))
 }
 
+#[tactic(auto, unfolding(model::specs::Asking::client_acquires))]
 pub fn acquire(v: Site, c: ClientId, m: Mode) -> Effect
     requires { CanonicalQueue v.slot.agent.queue }
     ensures { verdict_of result ≡ client_acquires v c m }

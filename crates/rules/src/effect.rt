@@ -26,12 +26,14 @@ pub struct Effect {
 }
 
 // ---- packets sent
+#[tactic(auto, unfolding(model::specs::States::waiters, model::specs::States::queue_of))]
 pub fn no_packet() -> Sends
     ensures { sent_by result ≡ [] }
 {
     grants_to(empty_queue())
 }
 
+#[tactic(auto, unfolding(crate::specs::Effects::sent_by, model::specs::States::waiters, model::specs::States::queue_of))]
 pub fn one_packet(p: Packet) -> Sends
     ensures { sent_by result ≡ p ∷ [] }
 {
@@ -45,6 +47,7 @@ pub fn one_packet(p: Packet) -> Sends
 }
 
 // p before q.
+#[tactic(auto, unfolding(crate::specs::Effects::sent_by, model::specs::States::waiters, model::specs::States::queue_of))]
 pub fn two_packets(p: Packet, q: Packet) -> Sends
     ensures { sent_by result ≡ p ∷ q ∷ [] }
 {
@@ -57,6 +60,7 @@ pub fn two_packets(p: Packet, q: Packet) -> Sends
     }
 }
 
+#[tactic(auto, unfolding(crate::specs::Effects::sent_by))]
 pub fn grants_to(q: Queue) -> Sends
     ensures { sent_by result ≡ map grant_of (waiters q) }
 {
@@ -69,6 +73,7 @@ pub fn grants_to(q: Queue) -> Sends
     }
 }
 
+#[tactic(auto, unfolding(crate::specs::Effects::verdict_of))]
 pub fn cannot_place() -> Effect
     ensures { verdict_of result ≡ cannot_place }
 {
@@ -90,6 +95,7 @@ pub fn cannot_place() -> Effect
 }
 
 // The step is placed: it writes the site and sends the packets.
+#[tactic(auto, unfolding(crate::specs::Effects::verdict_of))]
 pub fn doing(v: Site, t: Sends) -> Effect
     ensures { verdict_of result ≡ does v (sent_by t) }
 {

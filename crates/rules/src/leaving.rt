@@ -16,6 +16,7 @@ use parts::state::is_waiting;
 use queues::{first, pop};
 
 // The packet in which the agent goes, with the holders hs: a FREE, or a GRANT for the first waiter.
+#[tactic(auto, using(crate::specs::Leaving::hands_on, crate::specs::Leaving::frees))]
 fn hand_over(mut a: Agent, hs: [bool; CLIENTS]) -> Packet
     requires { CanonicalQueue a.queue }
     ensures { result ≡ hand_over a hs (waiters a.queue) }
@@ -34,6 +35,7 @@ fn hand_over(mut a: Agent, hs: [bool; CLIENTS]) -> Packet
 }
 
 // The agent a removes the holder c and leaves if empty.
+#[tactic(auto, unfolding(model::specs::Asking::stays_if))]
 pub fn leave(v: Site, mut a: Agent, c: ClientId) -> Effect
     requires { CanonicalQueue a.queue }
     ensures { verdict_of result ≡ leaves v a c }
@@ -67,6 +69,7 @@ pub fn machine_of(c: ClientId) -> MachineId
 }
 
 // A client that holds releases.
+#[tactic(auto, unfolding(model::specs::Asking::client_releases))]
 pub fn release(v: Site, c: ClientId) -> Effect
     requires { CanonicalQueue v.slot.agent.queue }
     ensures { verdict_of result ≡ client_releases v c }
@@ -82,6 +85,7 @@ pub fn release(v: Site, c: ClientId) -> Effect
 }
 
 // A client that waits gives up.
+#[tactic(auto, unfolding(model::specs::Asking::client_gives_up))]
 pub fn give_up(v: Site, c: ClientId) -> Effect
     ensures { verdict_of result ≡ client_gives_up v c }
 {
@@ -91,6 +95,7 @@ pub fn give_up(v: Site, c: ClientId) -> Effect
 }
 
 // A GRANT is lost: its client, if it waits, has a note of that.
+#[tactic(auto, unfolding(model::specs::Asking::grant_is_lost))]
 pub fn lose(v: Site) -> Effect
     ensures { verdict_of result ≡ grant_is_lost v }
 {
