@@ -43,6 +43,7 @@ fn may_leave(t: Admission, w: Waiter) -> bool
 }
 
 // A waiter that may leave joins the holders; another stays.
+#[tactic(auto, unfolding(crate::specs::Admits::admits_one))]
 fn admit(mut t: Admission, w: Waiter) -> Admission
     requires { Room t 1 }
     ensures { result ≡ admits_one t w }
@@ -77,6 +78,7 @@ fn admit_all(s: Admission, a: [Waiter; QUEUE_CAPACITY], n: usize) -> Admission
 }
 
 // The waiters of q, from the holders g on.
+#[tactic(auto, using(crate::specs::Admits::admits_start, crate::specs::Admits::room_start), unfolding(model::specs::States::waiters))]
 fn admit_queue(g: [bool; CLIENTS], q: Queue) -> Admission
     requires { CanonicalQueue q }
     ensures { result ≡ admission g (waiters q) }
@@ -102,6 +104,7 @@ fn granted_in(m: Mode, st: Status) -> Status
     }
 }
 
+#[tactic(auto, using(laws::specs::Shapes::waiters_of), unfolding(model::specs::AtMachine::installs))]
 fn install_shared(v: Site, c: ClientId, a: Agent) -> Effect
     requires { CanonicalQueue a.queue }
     ensures { verdict_of result ≡ installs v c Shared a }
@@ -122,6 +125,7 @@ fn install_shared(v: Site, c: ClientId, a: Agent) -> Effect
     doing(with_slot(with_status(v, st), some_agent(b)), t)
 }
 
+#[tactic(auto, using(laws::specs::Parting::none_leaves, laws::specs::Shapes::queue_whole), unfolding(model::specs::AtMachine::installs, model::specs::AtMachine::joined))]
 fn install_exclusive(v: Site, c: ClientId, a: Agent) -> Effect
     requires { CanonicalQueue a.queue }
     ensures { verdict_of result ≡ installs v c Exclusive a }
@@ -152,6 +156,7 @@ fn install(v: Site, c: ClientId, m: Mode, a: Agent) -> Effect
 }
 
 // The client goes back to the front of the agent's queue.
+#[tactic(auto, using(rules::specs::Room::room_left))]
 fn queue_first(v: Site, mut a: Agent, c: ClientId, m: Mode) -> Effect
     requires { CanonicalQueue a.queue }
     ensures { verdict_of result ≡ with_room a c (does (with_slot v (some_agent (requeued a c m))) []) }
@@ -183,6 +188,7 @@ fn sent_back(p: Packet) -> Packet
 }
 
 // here: an agent is on the machine; x: the agent carried, or none.
+#[tactic(auto, unfolding(model::specs::AtMachine::grant_arrives))]
 fn grant_arrives(v: Site, here: bool, x: AgentSlot, c: ClientId, m: Mode) -> Effect
     requires { CanonicalQueue x.agent.queue }
     ensures { verdict_of result ≡ grant_arrives here x.present v x.agent c m }
@@ -201,6 +207,7 @@ fn grant_arrives(v: Site, here: bool, x: AgentSlot, c: ClientId, m: Mode) -> Eff
     }
 }
 
+#[tactic(auto, unfolding(model::specs::AtMachine::rejected_grant_arrives))]
 fn rejected_grant_arrives(v: Site, here: bool, a: Agent, c: ClientId, m: Mode) -> Effect
     requires { CanonicalQueue a.queue }
     ensures { verdict_of result ≡ rejected_grant_arrives here v a c m }
@@ -213,6 +220,7 @@ fn rejected_grant_arrives(v: Site, here: bool, a: Agent, c: ClientId, m: Mode) -
 }
 
 // An ACQUIRE that the decider granted: its mark is counted in the agent's incarnation.
+#[tactic(auto, unfolding(model::specs::AtMachine::marked))]
 fn marked_arrives(v: Site, a: Agent, c: ClientId) -> Effect
     ensures { verdict_of result ≡ marked v a c }
 {
@@ -227,6 +235,7 @@ fn marked_arrives(v: Site, a: Agent, c: ClientId) -> Effect
     }
 }
 
+#[tactic(auto, unfolding(model::specs::AtMachine::unmarked))]
 fn unmarked_arrives(v: Site, a: Agent, c: ClientId, m: Mode) -> Effect
     requires { (CanonicalQueue v.slot.agent.queue) × (CanonicalQueue a.queue) }
     ensures { verdict_of result ≡ unmarked v a c m }
@@ -241,6 +250,7 @@ fn unmarked_arrives(v: Site, a: Agent, c: ClientId, m: Mode) -> Effect
     }
 }
 
+#[tactic(auto, unfolding(model::specs::AtMachine::acquire_arrives))]
 fn acquire_arrives(v: Site, p: Packet, c: ClientId, m: Mode, granted: bool) -> Effect
     requires { CanonicalQueue v.slot.agent.queue }
     ensures { verdict_of result ≡ acquire_arrives v.slot.present v v.slot.agent p c m granted }
@@ -257,6 +267,7 @@ fn acquire_arrives(v: Site, p: Packet, c: ClientId, m: Mode, granted: bool) -> E
     }
 }
 
+#[tactic(auto, unfolding(model::specs::AtMachine::release_arrives))]
 fn release_arrives(v: Site, p: Packet, c: ClientId) -> Effect
     requires { CanonicalQueue v.slot.agent.queue }
     ensures { verdict_of result ≡ release_arrives v p c }
@@ -303,6 +314,7 @@ fn unlisted_arrives(v: Site, p: Packet, c: ClientId) -> Effect
 }
 
 // A rejected FREE: the carried agent x is installed as carried.
+#[tactic(auto, unfolding(model::specs::AtMachine::free_arrives))]
 fn free_arrives(v: Site, here: bool, x: AgentSlot) -> Effect
     ensures { verdict_of result ≡ free_arrives here v x }
 {
@@ -314,6 +326,7 @@ fn free_arrives(v: Site, here: bool, x: AgentSlot) -> Effect
     }
 }
 
+#[tactic(auto, unfolding(model::specs::AtMachine::arrives))]
 fn arrive(m: Message, v: Site, p: Packet) -> Effect
     requires { (CanonicalQueue v.slot.agent.queue) × (CanonicalQueue p.carried.agent.queue) }
     ensures { verdict_of result ≡ arrives m v p }
@@ -336,6 +349,7 @@ fn arrive(m: Message, v: Site, p: Packet) -> Effect
     }
 }
 
+#[tactic(auto, unfolding(model::specs::AtMachine::at_machine))]
 pub fn at_machine(v: Site, p: Packet) -> Effect
     requires { (CanonicalQueue v.slot.agent.queue) × (CanonicalQueue p.carried.agent.queue) }
     ensures { verdict_of result ≡ at_machine v p }
@@ -345,6 +359,7 @@ pub fn at_machine(v: Site, p: Packet) -> Effect
 }
 
 // What the machine with this slot makes of a RELEASE.
+#[tactic(auto, unfolding(model::specs::AtMachine::handles))]
 fn handling_of_release(x: AgentSlot, c: ClientId) -> Handling
     requires { CanonicalQueue x.agent.queue }
     ensures { result ≡ handles (Release c) x }
@@ -369,6 +384,7 @@ fn has(x: AgentSlot, c: ClientId) -> bool
 }
 
 // And of any message: why a request comes back.
+#[tactic(auto, unfolding(model::specs::AtMachine::handles))]
 pub fn handling(m: Message, x: AgentSlot) -> Handling
     requires { CanonicalQueue x.agent.queue }
     ensures { result ≡ handles m x }
