@@ -21,6 +21,7 @@ use rules::effect::{Effect, Sends, cannot_place};
 type Slots = [Packet; WIRE_CAPACITY];
 
 // How many of two packets a count means.
+#[tactic(auto, using(rules::specs::Effects::few_of_two, rules::specs::Effects::all_of_two))]
 fn of_two(n: u8) -> u8
     ensures { (result ≤ 2) × ((p q : Packet) → length (take n (p ∷ q ∷ [])) ≡ result) }
 {
@@ -73,6 +74,7 @@ fn write_grants(a: Slots, n: usize, ws: [Waiter; QUEUE_CAPACITY], m: usize) -> S
     b
 }
 
+#[tactic(auto, using(rules::specs::Effects::sent_length))]
 fn sent_count(t: Sends) -> u8
     ensures { (result ≤ 2 + queue_capacity) × (length (sent_by t) ≡ result) }
 {
@@ -167,6 +169,7 @@ pub(crate) fn plan_effect(
     }
 }
 
+#[tactic(auto, using(crate::specs::Plans::plans_refusal))]
 pub fn refuse(n: Refusal) -> Plan
     ensures { (s : LockState) → Plans result s (refused n s) }
 {

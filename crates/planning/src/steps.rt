@@ -77,6 +77,7 @@ fn client_named(m: Message) -> ClientId
 }
 
 // The packet p is delivered at its address.
+#[tactic(auto, unfolding(model::specs::Calls::delivers))]
 fn deliver(to: Address, v: Site, p: Packet) -> Effect
     requires { (CanonicalQueue v.slot.agent.queue) × (CanonicalQueue p.carried.agent.queue) }
     ensures { verdict_of result ≡ delivers to v p }
@@ -88,6 +89,7 @@ fn deliver(to: Address, v: Site, p: Packet) -> Effect
 }
 
 // What the delivery tells: a machine's handling. The decider tells none.
+#[tactic(auto, unfolding(model::specs::Calls::handled_at))]
 fn handled_at(to: Address, m: Message, x: AgentSlot) -> Handling
     requires { CanonicalQueue x.agent.queue }
     ensures { result ≡ handled_at to m x }
