@@ -70,6 +70,7 @@ fn on_wire(a: [Packet; WIRE_CAPACITY], len: u8, marks: bool) -> u8
 }
 
 // The agents, on machines and in packets.
+#[tactic(auto, unfolding(model::specs::States::packets))]
 pub fn agents_in(s: LockState) -> u8
     ensures { result ≡ agents_in s }
 {
@@ -80,6 +81,7 @@ pub fn agents_in(s: LockState) -> u8
 }
 
 // The marked ACQUIREs on the wire.
+#[tactic(auto, unfolding(model::specs::States::packets))]
 pub fn marks_in(s: LockState) -> u8
     ensures { result ≡ marks_in s }
 {

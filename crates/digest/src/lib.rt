@@ -18,18 +18,21 @@ use model::{
 };
 use parts::used::used;
 
+#[tactic(auto, unfolding(crate::specs::Bytes::digest_of))]
 pub fn byte(h: u32, b: u8) -> u32
     ensures { result ≡ digest_of h (b ∷ []) }
 {
     ((h as u64 * 65599 + b as u64 + 1) % 4294967291) as u32
 }
 
+#[tactic(auto, using(crate::specs::Loops::parts))]
 fn two(h: u32, a: u8, b: u8) -> u32
     ensures { result ≡ digest_of h (a ∷ b ∷ []) }
 {
     byte(byte(h, a), b)
 }
 
+#[tactic(auto, using(crate::specs::Loops::parts))]
 fn four(h: u32, a: u8, b: u8, c: u8, d: u8) -> u32
     ensures { result ≡ digest_of h (a ∷ b ∷ c ∷ d ∷ []) }
 {
@@ -61,6 +64,7 @@ fn owner(h: u32, o: Owner) -> u32
     }
 }
 
+#[tactic(auto, using(crate::specs::Loops::parts), unfolding(crate::specs::Bytes::decider_bytes))]
 fn decider(h: u32, d: Decider) -> u32
     ensures { result ≡ digest_of h (decider_bytes d) }
 {
@@ -81,6 +85,7 @@ fn holders(h: u32, a: [bool; CLIENTS]) -> u32
     g
 }
 
+#[tactic(auto, unfolding(crate::specs::Bytes::waiter_bytes))]
 fn waiter(h: u32, w: Waiter) -> u32
     ensures { result ≡ digest_of h (waiter_bytes w) }
 {
@@ -103,6 +108,7 @@ fn first_waiters(h: u32, a: [Waiter; QUEUE_CAPACITY], n: u8) -> u32
     g
 }
 
+#[tactic(auto, using(crate::specs::Loops::parts), unfolding(crate::specs::Bytes::queue_bytes, model::specs::States::waiters))]
 fn queue(h: u32, q: Queue) -> u32
     ensures { result ≡ digest_of h (queue_bytes q) }
 {
@@ -111,6 +117,7 @@ fn queue(h: u32, q: Queue) -> u32
     first_waiters(byte(h, n), a, n)
 }
 
+#[tactic(auto, using(crate::specs::Loops::parts), unfolding(crate::specs::Bytes::agent_bytes))]
 fn agent(h: u32, a: Agent) -> u32
     ensures { result ≡ digest_of h (agent_bytes a) }
 {
@@ -120,6 +127,7 @@ fn agent(h: u32, a: Agent) -> u32
     queue(holders(two(h, mode_number(m), a.incarnation), s), q)
 }
 
+#[tactic(auto, using(crate::specs::Loops::parts), unfolding(crate::specs::Bytes::slot_bytes))]
 fn agent_slot(h: u32, x: AgentSlot) -> u32
     ensures { result ≡ digest_of h (slot_bytes x) }
 {
@@ -164,6 +172,7 @@ fn status_number(s: Status) -> u8
     }
 }
 
+#[tactic(auto, unfolding(crate::specs::Bytes::client_bytes))]
 fn client(h: u32, c: ClientState) -> u32
     ensures { result ≡ digest_of h (client_bytes c) }
 {
@@ -209,6 +218,7 @@ fn address(h: u32, t: Address) -> u32
     }
 }
 
+#[tactic(auto, using(crate::specs::Loops::parts), unfolding(crate::specs::Bytes::packet_bytes))]
 fn packet(h: u32, p: Packet) -> u32
     ensures { result ≡ digest_of h (packet_bytes p) }
 {
@@ -233,6 +243,7 @@ fn first_packets(h: u32, a: [Packet; WIRE_CAPACITY], n: u8) -> u32
     g
 }
 
+#[tactic(auto, using(crate::specs::Loops::parts), unfolding(crate::specs::Bytes::wire_bytes, model::specs::States::packets))]
 fn wire(h: u32, w: Wire) -> u32
     ensures { result ≡ digest_of h (wire_bytes w) }
 {
@@ -242,6 +253,7 @@ fn wire(h: u32, w: Wire) -> u32
 }
 
 // ---- locks
+#[tactic(auto, using(crate::specs::Loops::parts), unfolding(crate::specs::Bytes::lock_bytes))]
 fn lock_state(h: u32, s: LockState) -> u32
     ensures { result ≡ digest_of h (lock_bytes s) }
 {
@@ -265,6 +277,7 @@ fn locks(h: u32, a: [LockState; LOCKS]) -> u32
     g
 }
 
+#[tactic(auto, using(crate::specs::Loops::parts), unfolding(crate::specs::Bytes::cluster_bytes))]
 pub fn cluster(h: u32, x: Cluster) -> u32
     ensures { result ≡ digest_of h (cluster_bytes x) }
 {
@@ -273,6 +286,7 @@ pub fn cluster(h: u32, x: Cluster) -> u32
 }
 
 // ---- what goes into the digest of a step: the answer to the question for a reason
+#[tactic(auto, using(crate::specs::Loops::parts))]
 fn because(h: u32, r: Reason) -> u32
     ensures { result ≡ digest_of h (reason_values (Because r)) }
 {
@@ -287,6 +301,7 @@ fn because(h: u32, r: Reason) -> u32
 }
 
 // Its number, and the values of a reason.
+#[tactic(auto, using(crate::specs::Loops::parts))]
 pub fn reason(h: u32, a: ReasonAnswer) -> u32
     ensures { result ≡ digest_of h (reason_number a ∷ reason_values a) }
 {

@@ -27,6 +27,7 @@ fn is_exclusive(m: Mode) -> bool
     }
 }
 
+#[tactic(auto, unfolding(model::specs::WellFormed::is_blank_waiter))]
 fn is_blank_waiter(w: Waiter) -> bool
     ensures { result ≡ is_blank_waiter w }
 {
@@ -36,6 +37,7 @@ fn is_blank_waiter(w: Waiter) -> bool
     (c.0 == 0) & e
 }
 
+#[tactic(auto, unfolding(model::specs::WellFormed::shaped))]
 fn shaped_waiters(a: [Waiter; QUEUE_CAPACITY], n: usize) -> bool
     ensures { result ≡ shaped queue_capacity is_blank_waiter a n }
 {
@@ -144,6 +146,7 @@ fn waiters_formed(a: [Waiter; QUEUE_CAPACITY], n: usize) -> bool
     true
 }
 
+#[tactic(auto, unfolding(model::specs::WellFormed::queue_formed))]
 fn queue_formed(q: Queue) -> bool
     ensures { result ≡ queue_formed q }
 {
@@ -163,6 +166,7 @@ fn has_all_holders(h: [bool; CLIENTS]) -> bool
     true
 }
 
+#[tactic(auto, unfolding(model::specs::WellFormed::agent_formed))]
 fn agent_formed(a: Agent) -> bool
     ensures { result ≡ agent_formed a }
 {
@@ -172,6 +176,7 @@ fn agent_formed(a: Agent) -> bool
     holders & queue
 }
 
+#[tactic(auto, unfolding(model::specs::WellFormed::slot_formed))]
 fn slot_formed(x: AgentSlot) -> bool
     ensures { result ≡ slot_formed x }
 {
@@ -206,6 +211,7 @@ fn grant_formed(c: ClientId, carries: bool, rejected: bool, t: Address) -> bool
     (c.0 < CLIENTS as u8) & (!rejected | (carries & !at_decider))
 }
 
+#[tactic(auto, unfolding(model::specs::WellFormed::message_formed))]
 fn free_formed(carries: bool, rejected: bool, t: Address) -> bool
     ensures { result ≡ message_formed Free carries rejected t }
 {
@@ -217,6 +223,7 @@ fn free_formed(carries: bool, rejected: bool, t: Address) -> bool
     }
 }
 
+#[tactic(auto, unfolding(model::specs::WellFormed::message_formed))]
 fn message_formed(m: Message, carries: bool, rejected: bool, t: Address) -> bool
     ensures { result ≡ message_formed m carries rejected t }
 {
@@ -248,6 +255,7 @@ fn circled_formed(m: Message, n: u8) -> bool
     }
 }
 
+#[tactic(auto, unfolding(model::specs::WellFormed::packet_formed))]
 fn packet_formed(p: Packet) -> bool
     ensures { result ≡ packet_formed p }
 {
@@ -263,6 +271,7 @@ fn packet_formed(p: Packet) -> bool
 
 // ---- a wire
 // The slots behind the first n, then these: in one function, since each that takes the array copies it.
+#[tactic(auto, unfolding(model::specs::WellFormed::shaped))]
 fn packets_formed(a: [Packet; WIRE_CAPACITY], n: usize) -> bool
     ensures { result ≡ (shaped wire_capacity is_blank_packet a n && all packet_formed (take n a)) }
 {
@@ -289,6 +298,7 @@ fn packets_formed(a: [Packet; WIRE_CAPACITY], n: usize) -> bool
     }
 }
 
+#[tactic(auto, unfolding(model::specs::WellFormed::wire_formed))]
 fn wire_formed(w: Wire) -> bool
     ensures { result ≡ wire_formed w }
 {
@@ -329,6 +339,7 @@ fn slots_formed(a: [AgentSlot; MACHINES]) -> bool
 }
 
 // Only who waits has the note of a lost GRANT.
+#[tactic(auto, unfolding(model::specs::WellFormed::client_formed))]
 fn client_formed(x: ClientState) -> bool
     ensures { result ≡ client_formed x }
 {
@@ -351,6 +362,7 @@ fn clients_formed(a: [ClientState; CLIENTS]) -> bool
     ok
 }
 
+#[tactic(auto, unfolding(model::specs::WellFormed::lock_formed))]
 fn lock_formed(n: u8, s: LockState) -> bool
     ensures { result ≡ lock_formed n s }
 {
@@ -377,6 +389,7 @@ fn locks_formed(n: u8, a: [LockState; LOCKS]) -> bool
     ok
 }
 
+#[tactic(auto, unfolding(model::specs::WellFormed::well_formed))]
 pub fn well_formed(x: Cluster) -> bool
     ensures { result ≡ well_formed x }
 {

@@ -11,6 +11,7 @@ use model::{
 };
 use parts::blank::{blank_packet, no_agent, unowned};
 
+#[tactic(auto, unfolding(model::specs::States::wire_of, model::specs::Lists::padded))]
 fn empty_wire() -> Wire
     ensures { result ≡ wire_of [] }
 {
@@ -21,6 +22,7 @@ fn empty_wire() -> Wire
     }
 }
 
+#[tactic(auto, unfolding(model::specs::States::fresh_lock))]
 fn fresh_lock() -> LockState
     ensures { result ≡ fresh_lock }
 {
@@ -39,6 +41,7 @@ fn fresh_lock() -> LockState
     }
 }
 
+#[tactic(auto, unfolding(model::specs::States::fresh_with))]
 fn fresh_with(n: u8) -> Cluster
     ensures { result ≡ fresh_with n }
 {
@@ -60,6 +63,7 @@ pub fn refuse_call(n: Refusal, x: Cluster) -> Outcome
 }
 
 // A fresh cluster, with the preference 0 for readers or 1 for writers. Any other is refused, and the cluster beside the refusal prefers readers.
+#[tactic(auto, unfolding(model::specs::Calls::fresh))]
 pub fn fresh(preference: u8) -> Outcome
     ensures { result ≡ fresh preference }
 {

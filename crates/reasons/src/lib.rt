@@ -92,6 +92,7 @@ fn in_packets(a: [Packet; WIRE_CAPACITY], len: u8, c: ClientId) -> ReasonAnswer
 }
 
 // Agents on machines come first, then those inside packets.
+#[tactic(auto, unfolding(model::specs::States::packets))]
 fn first_in_queues(s: LockState, c: ClientId) -> ReasonAnswer
     ensures { result ≡ queue_reason s c }
 {
@@ -156,6 +157,7 @@ fn first_true(s: LockState, c: ClientId) -> ReasonAnswer
 }
 
 // The reason, in one lock's state.
+#[tactic(auto, unfolding(model::specs::Reasons::reason_in))]
 pub fn reason_in(s: LockState, c: ClientId) -> ReasonAnswer
     ensures { result ≡ reason_in s c }
 {

@@ -94,6 +94,7 @@ fn whole_record(n: usize, bytes: &[u8], at: usize, call: Call) -> Reading
 }
 
 // What stands at a position; behind the last byte, the end.
+#[tactic(auto, unfolding(model::specs::Transcripts::read_record))]
 pub fn read_record(bytes: &[u8], at: usize) -> Reading
     ensures { result ≡ read_record bytes.now at }
 {

@@ -1,2 +1,0 @@
--- What the proofs of every function cite.
-mod Base

@@ -1,6 +1,0 @@
-use Rattle.formed.proofs.Base.{needs}
-use Rattle.formed.proofs.owner_in_range.Statement.{statement}
-use Rattle.formed.proofs.owner_in_range.Tie as tie
-
-pub owner-in-range-spec : {M : Type 1} → statement M
-owner-in-range-spec = tie.close (tie.spec (search needs) (search needs) (search needs) (λ c. search needs) (λ c. rw c.before.before.o.given.1))
