@@ -1,6 +1,6 @@
 -- The calls on one lock of a cluster that is known to be well formed, when the lock's number is in range: what is left of each call
 -- is a step on that lock's state.
-use Rattle.std.specs.Prelude.{◌≡◌, refl, Bool, true, false, List, ◌∷◌, ℕ, ◌<◌, ◌≤◌, get_or, set, leb}
+use Rattle.std.specs.Prelude.{◌≡◌, refl, Bool, true, false, List, ◌∷◌, ℕ, ◌<◌, ◌≤◌, get_or, leb}
 use Rattle.std.proofs.Common.{ap, le-leb, leb-false, arith}
 use Rattle.std.proofs.lemmas.List.{set-get_or}
 use Rattle.std.proofs.lemmas.Bool.{lt-leb}

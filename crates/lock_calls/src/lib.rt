@@ -58,6 +58,7 @@ fn is_idle(st: Status) -> bool
 }
 
 // The client is idle, and no packet names it.
+#[tactic(auto, using(laws::specs::Lists::at_any), unfolding(model::specs::Refusals::first))]
 fn idle_test(s: LockState, c: ClientId) -> Answer
     requires { CanonicalWire s.wire }
     ensures { result ≡ first (idle_tests s c) }
@@ -75,6 +76,7 @@ fn idle_test(s: LockState, c: ClientId) -> Answer
 }
 
 // Machine and task are in range. These tests come first, whatever others follow.
+#[tactic(auto, unfolding(model::specs::Refusals::first))]
 pub fn range_test(k: MachineId, t: TaskId) -> Answer
     ensures { (cs : List Cause) → first (range_tests k t cs) ≡ further result (first cs) }
 {
@@ -87,6 +89,7 @@ pub fn range_test(k: MachineId, t: TaskId) -> Answer
     }
 }
 
+#[tactic(auto, using(crate::specs::LockCalls::in_range_lem), unfolding(model::specs::Refusals::first))]
 fn acquire_test(s: LockState, k: MachineId, t: TaskId, m: u8) -> Answer
     requires { CanonicalWire s.wire }
     ensures { result ≡ first (acquire_tests s k t m) }
@@ -104,6 +107,7 @@ fn acquire_test(s: LockState, k: MachineId, t: TaskId, m: u8) -> Answer
     }
 }
 
+#[tactic(auto, unfolding(model::specs::Refusals::first))]
 fn holding_test(s: LockState, c: ClientId) -> Answer
     ensures { result ≡ first (holding_tests s c) }
 {
@@ -115,6 +119,7 @@ fn holding_test(s: LockState, c: ClientId) -> Answer
     }
 }
 
+#[tactic(auto, using(crate::specs::LockCalls::in_range_lem), unfolding(model::specs::Refusals::first))]
 fn release_test(s: LockState, k: MachineId, t: TaskId) -> Answer
     ensures { result ≡ first (release_tests s k t) }
 {
@@ -125,6 +130,7 @@ fn release_test(s: LockState, k: MachineId, t: TaskId) -> Answer
     }
 }
 
+#[tactic(auto, unfolding(model::specs::Refusals::first))]
 fn waiting_test(s: LockState, c: ClientId) -> Answer
     ensures { result ≡ first (waiting_tests s c) }
 {
@@ -136,6 +142,7 @@ fn waiting_test(s: LockState, c: ClientId) -> Answer
     }
 }
 
+#[tactic(auto, using(crate::specs::LockCalls::in_range_lem), unfolding(model::specs::Refusals::first))]
 fn give_up_test(s: LockState, k: MachineId, t: TaskId) -> Answer
     ensures { result ≡ first (give_up_tests s k t) }
 {
@@ -171,6 +178,7 @@ fn to_machine(to: Address) -> bool
 }
 
 // A GRANT without agent, on its way to a machine.
+#[tactic(auto, unfolding(model::specs::Calls::can_be_lost))]
 pub fn can_be_lost(p: Packet) -> bool
     ensures { result ≡ can_be_lost p }
 {
@@ -188,6 +196,7 @@ pub fn can_be_lost(p: Packet) -> bool
 }
 
 // n is the cluster's preference.
+#[tactic(auto, using(crate::specs::LockCalls::in_range_lem, laws::specs::Formed::ready), unfolding(crate::specs::LockCalls::acquire_on, crate::specs::LockCalls::step_unless))]
 fn acquire_on(n: u8, s: LockState, k: MachineId, t: TaskId, m: u8) -> Plan
     requires { lock_formed n s ≡ true }
     ensures { Plans result s (acquire_on n s k t m) }
@@ -199,6 +208,7 @@ fn acquire_on(n: u8, s: LockState, k: MachineId, t: TaskId, m: u8) -> Plan
     }
 }
 
+#[tactic(auto, using(crate::specs::LockCalls::in_range_lem, laws::specs::Formed::ready), unfolding(crate::specs::LockCalls::release_on, crate::specs::LockCalls::step_unless))]
 fn release_on(n: u8, s: LockState, k: MachineId, t: TaskId) -> Plan
     requires { lock_formed n s ≡ true }
     ensures { Plans result s (release_on n s k t) }
@@ -210,6 +220,7 @@ fn release_on(n: u8, s: LockState, k: MachineId, t: TaskId) -> Plan
     }
 }
 
+#[tactic(auto, using(laws::specs::Formed::ready, laws::specs::Shapes::length_packets), unfolding(crate::specs::LockCalls::deliver_on, crate::specs::LockCalls::step_unless, model::specs::Refusals::first))]
 fn deliver_on(n: u8, s: LockState, i: u8) -> Plan
     requires { lock_formed n s ≡ true }
     ensures { Plans result s (deliver_on n s i) }
@@ -221,6 +232,7 @@ fn deliver_on(n: u8, s: LockState, i: u8) -> Plan
     }
 }
 
+#[tactic(auto, using(laws::specs::Formed::ready, laws::specs::Shapes::length_packets), unfolding(crate::specs::LockCalls::lose_on, crate::specs::LockCalls::step_unless, model::specs::Refusals::first))]
 fn lose_on(n: u8, s: LockState, i: u8) -> Plan
     requires { lock_formed n s ≡ true }
     ensures { Plans result s (lose_on n s i) }
@@ -236,6 +248,7 @@ fn lose_on(n: u8, s: LockState, i: u8) -> Plan
     }
 }
 
+#[tactic(auto, using(crate::specs::LockCalls::in_range_lem, laws::specs::Formed::ready), unfolding(crate::specs::LockCalls::give_up_on, crate::specs::LockCalls::step_unless))]
 fn give_up_on(n: u8, s: LockState, k: MachineId, t: TaskId) -> Plan
     requires { lock_formed n s ≡ true }
     ensures { Plans result s (give_up_on n s k t) }
@@ -273,6 +286,7 @@ pub fn lock_of(c: Call) -> LockId
 }
 
 // The call on the state of its lock, planned.
+#[tactic(auto, unfolding(crate::specs::LockCalls::call_on, crate::specs::LockCalls::acquire_on, crate::specs::LockCalls::release_on, crate::specs::LockCalls::deliver_on, crate::specs::LockCalls::lose_on, crate::specs::LockCalls::give_up_on))]
 pub fn plan_call(n: u8, c: Call, s: LockState) -> Plan
     requires { lock_formed n s ≡ true }
     ensures { Plans result s (call_on n c s) }
