@@ -1,6 +1,7 @@
 // The agent that the script makes: `agent ..`.
 use crate::line::{Numbers, word};
 use crate::print;
+use crate::print::Output;
 use model::{Agent, AgentSlot, CLIENTS, ClientId, Mode, QUEUE_CAPACITY, Queue, Waiter};
 
 // The mode of document 01's number; any other number than 2 is shared.
@@ -53,10 +54,10 @@ fn with_incarnation(mut a: Agent, n: u8) -> Agent {
     a
 }
 
-fn with_waiter(mut a: Agent, j: u8, c: u8, m: u8) -> Agent {
+fn with_waiter<R: Print>(out: &mut Output<'_, R>, mut a: Agent, j: u8, c: u8, m: u8) -> Agent {
     let i = j as usize;
     if QUEUE_CAPACITY <= i {
-        print::out_of_range();
+        print::out_of_range(out);
         return a;
     }
     let w = waiter(c, m);
@@ -66,22 +67,22 @@ fn with_waiter(mut a: Agent, j: u8, c: u8, m: u8) -> Agent {
     a
 }
 
-fn with_holder(mut a: Agent, c: u8) -> Agent {
+fn with_holder<R: Print>(out: &mut Output<'_, R>, mut a: Agent, c: u8) -> Agent {
     let i = c as usize;
     if CLIENTS <= i {
-        print::out_of_range();
+        print::out_of_range(out);
         return a;
     }
     a.holders[i] = true;
     a
 }
 
-fn written(a: Agent, k: usize, n: Numbers) -> Agent {
+fn written<R: Print>(out: &mut Output<'_, R>, a: Agent, k: usize, n: Numbers) -> Agent {
     match k {
         0 => new_agent(n.first),
         1 => new_agent(n.first),
-        2 => with_holder(a, n.first),
-        3 => with_waiter(a, n.first, n.second, n.third),
+        2 => with_holder(out, a, n.first),
+        3 => with_waiter(out, a, n.first, n.second, n.third),
         4 => with_length(a, n.first),
         5 => with_incarnation(a, n.first),
         _ => a,
@@ -98,13 +99,14 @@ fn present(k: usize, before: bool) -> bool {
 }
 
 // The slot after the command s, whose numbers are n. The words' places are the cases of `written`.
-pub fn made(x: AgentSlot, s: &[u8], n: Numbers) -> AgentSlot {
+pub fn made<R: Print>(out: &mut Output<'_, R>, x: AgentSlot, s: &[u8], n: Numbers) -> AgentSlot {
     let k = word(
+        out,
         s,
         n.count,
         b"1new 1absent 1holder 3waiter 1length 1incarnation",
     );
-    let agent = written(x.agent, k, n);
+    let agent = written(out, x.agent, k, n);
     AgentSlot {
         present: present(k, x.present),
         agent,

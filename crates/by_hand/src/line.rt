@@ -2,6 +2,7 @@
 ghost use Rattle.std.specs.Prelude.{◌≤◌, ◌<◌, length};
 
 use crate::print;
+use crate::print::Output;
 
 // As many numbers as a command has at most.
 const MOST: usize = 4;
@@ -118,10 +119,10 @@ pub fn place(s: &[u8], count: usize, list: &[u8]) -> usize {
 }
 
 // The same, where a text that fits none is no command.
-pub fn word(s: &[u8], count: usize, list: &[u8]) -> usize {
+pub fn word<R: Print>(out: &mut Output<'_, R>, s: &[u8], count: usize, list: &[u8]) -> usize {
     let k = place(s, count, list);
     if k == NOWHERE {
-        print::not_understood(s);
+        print::not_understood(out, s);
     }
     k
 }

@@ -1,5 +1,6 @@
 // The state that the script makes of a lock: `lock ..`.
 use crate::line::{Numbers, word};
+use crate::print::Output;
 use crate::{agents, print};
 use model::{
     AgentSlot, CLIENTS, ClientState, Decider, LockState, MACHINES, MachineId, Owner, Packet,
@@ -46,20 +47,30 @@ fn with_writer(mut s: LockState) -> LockState {
     s
 }
 
-fn with_agent(mut s: LockState, k: u8, x: AgentSlot) -> LockState {
+fn with_agent<R: Print>(
+    out: &mut Output<'_, R>,
+    mut s: LockState,
+    k: u8,
+    x: AgentSlot,
+) -> LockState {
     let i = k as usize;
     if MACHINES <= i {
-        print::out_of_range();
+        print::out_of_range(out);
         return s;
     }
     s.agents[i] = x;
     s
 }
 
-fn with_status(mut s: LockState, c: u8, status: Status) -> LockState {
+fn with_status<R: Print>(
+    out: &mut Output<'_, R>,
+    mut s: LockState,
+    c: u8,
+    status: Status,
+) -> LockState {
     let i = c as usize;
     if CLIENTS <= i {
-        print::out_of_range();
+        print::out_of_range(out);
         return s;
     }
     let y = ClientState {
@@ -70,21 +81,21 @@ fn with_status(mut s: LockState, c: u8, status: Status) -> LockState {
     s
 }
 
-fn with_holder(s: LockState, c: u8, m: u8) -> LockState {
+fn with_holder<R: Print>(out: &mut Output<'_, R>, s: LockState, c: u8, m: u8) -> LockState {
     let mode = agents::mode(m);
-    with_status(s, c, Status::Holding(mode))
+    with_status(out, s, c, Status::Holding(mode))
 }
 
-fn with_waiter(s: LockState, c: u8, m: u8) -> LockState {
+fn with_waiter<R: Print>(out: &mut Output<'_, R>, s: LockState, c: u8, m: u8) -> LockState {
     let mode = agents::mode(m);
-    with_status(s, c, Status::Waiting(mode))
+    with_status(out, s, c, Status::Waiting(mode))
 }
 
 // The note of a lost GRANT, whatever the client's status is.
-fn with_note(mut s: LockState, c: u8) -> LockState {
+fn with_note<R: Print>(out: &mut Output<'_, R>, mut s: LockState, c: u8) -> LockState {
     let i = c as usize;
     if CLIENTS <= i {
-        print::out_of_range();
+        print::out_of_range(out);
         return s;
     }
     let y = s.clients[i];
@@ -94,10 +105,10 @@ fn with_note(mut s: LockState, c: u8) -> LockState {
     s
 }
 
-fn with_packet(mut s: LockState, j: u8, p: Packet) -> LockState {
+fn with_packet<R: Print>(out: &mut Output<'_, R>, mut s: LockState, j: u8, p: Packet) -> LockState {
     let i = j as usize;
     if WIRE_CAPACITY <= i {
-        print::out_of_range();
+        print::out_of_range(out);
         return s;
     }
     let mut w = s.wire;
@@ -126,8 +137,16 @@ fn filled(mut s: LockState, p: Packet) -> LockState {
 
 // The state after the command t, whose numbers are n, the lock's first. The slot x and the packet p are what it puts there. The words' places are the
 // cases.
-pub fn made(s: LockState, x: AgentSlot, p: Packet, t: &[u8], n: Numbers) -> LockState {
+pub fn made<R: Print>(
+    out: &mut Output<'_, R>,
+    s: LockState,
+    x: AgentSlot,
+    p: Packet,
+    t: &[u8],
+    n: Numbers,
+) -> LockState {
     let k = word(
+        out,
         t,
         n.count,
         b"3owned 1free 2incarnation 2agent 3holds 3waits 2packet 2length 1filled 1writer 2lost",
@@ -136,14 +155,14 @@ pub fn made(s: LockState, x: AgentSlot, p: Packet, t: &[u8], n: Numbers) -> Lock
         0 => owned(s, n.second, n.third),
         1 => with_owner(s, Owner::Free),
         2 => with_incarnation(s, n.second),
-        3 => with_agent(s, n.second, x),
-        4 => with_holder(s, n.second, n.third),
-        5 => with_waiter(s, n.second, n.third),
-        6 => with_packet(s, n.second, p),
+        3 => with_agent(out, s, n.second, x),
+        4 => with_holder(out, s, n.second, n.third),
+        5 => with_waiter(out, s, n.second, n.third),
+        6 => with_packet(out, s, n.second, p),
         7 => with_length(s, n.second),
         8 => filled(s, p),
         9 => with_writer(s),
-        10 => with_note(s, n.second),
+        10 => with_note(out, s, n.second),
         _ => s,
     }
 }

@@ -1,6 +1,7 @@
 // The packet that the script makes: `packet ..`.
 use crate::agents;
 use crate::line::{Numbers, word};
+use crate::print::Output;
 use model::{Address, AgentSlot, ClientId, MachineId, Message, Packet};
 
 // A packet without agent, to the decider.
@@ -70,8 +71,15 @@ fn carrying(mut p: Packet, x: AgentSlot) -> Packet {
 }
 
 // The packet after the command s, whose numbers are n. The slot x is what it carries when the command says so. The words' places are the cases.
-pub fn made(p: Packet, x: AgentSlot, s: &[u8], n: Numbers) -> Packet {
+pub fn made<R: Print>(
+    out: &mut Output<'_, R>,
+    p: Packet,
+    x: AgentSlot,
+    s: &[u8],
+    n: Numbers,
+) -> Packet {
     let k = word(
+        out,
         s,
         n.count,
         b"2ACQUIRE 2MARKED 2GRANT 1RELEASE 0FREE 1to 0rejected 0carries 1circled",

@@ -1,48 +1,70 @@
 // Standard output, piece by piece.
-use libc::STDOUT_FILENO;
 use model::TASKS;
+use std::io;
 
-pub fn text(s: &[u8]) {
-    io::write_all(STDOUT_FILENO, s);
+// Where the text goes. After a write that failed nothing more is written, and `end` gives its error.
+#[derive(Drop)]
+pub struct Output<'a, R: Print> {
+    rt: &'a R,
+    written: io::Result<()>,
 }
 
-pub fn long(n: u16) {
-    let mut digits = [0u8; 20];
-    let k = io::decimal(n as u64, &mut digits);
-    text(&digits[..k]);
-}
+impl<'a, R: Print> Output<'a, R> {
+    pub fn new(rt: &'a R) -> Output<'a, R> {
+        Output {
+            rt,
+            written: Ok(()),
+        }
+    }
 
-pub fn number(n: u8) {
-    long(n as u16);
-}
-
-// A client is written machine/task.
-pub fn client(c: u8) {
-    number(c / TASKS as u8);
-    text(b"/");
-    number(c % TASKS as u8);
-}
-
-pub fn either(yes: bool, a: &[u8], b: &[u8]) {
-    if yes {
-        text(a);
-    } else {
-        text(b);
+    pub fn end(self) -> io::Result<()> {
+        self.written
     }
 }
 
-pub fn line(s: &[u8]) {
-    text(s);
-    text(b"\n");
+pub fn text<R: Print>(out: &mut Output<'_, R>, s: &[u8]) {
+    if out.written.is_ok() {
+        out.written = out.rt.write_all(s);
+    }
+}
+
+pub fn long<R: Print>(out: &mut Output<'_, R>, n: u16) {
+    if out.written.is_ok() {
+        out.written = out.rt.print(n);
+    }
+}
+
+pub fn number<R: Print>(out: &mut Output<'_, R>, n: u8) {
+    long(out, n as u16);
+}
+
+// A client is written machine/task.
+pub fn client<R: Print>(out: &mut Output<'_, R>, c: u8) {
+    number(out, c / TASKS as u8);
+    text(out, b"/");
+    number(out, c % TASKS as u8);
+}
+
+pub fn either<R: Print>(out: &mut Output<'_, R>, yes: bool, a: &[u8], b: &[u8]) {
+    if yes {
+        text(out, a);
+    } else {
+        text(out, b);
+    }
+}
+
+pub fn line<R: Print>(out: &mut Output<'_, R>, s: &[u8]) {
+    text(out, s);
+    text(out, b"\n");
 }
 
 // A number of a command is too large for what it counts.
-pub fn out_of_range() {
-    not_understood(b"a number out of range");
+pub fn out_of_range<R: Print>(out: &mut Output<'_, R>) {
+    not_understood(out, b"a number out of range");
 }
 
 // What the script says is no command: the line shows in the output, where nothing expects it.
-pub fn not_understood(s: &[u8]) {
-    text(b"NOT UNDERSTOOD: ");
-    line(s);
+pub fn not_understood<R: Print>(out: &mut Output<'_, R>, s: &[u8]) {
+    text(out, b"NOT UNDERSTOOD: ");
+    line(out, s);
 }

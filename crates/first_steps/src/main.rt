@@ -2,22 +2,20 @@
 #![tactic(auto)]
 
 use model::{LockId, MachineId, TaskId};
+use std::io;
 
-fn print(n: u16) {
-    let mut digits = [0u8; 20];
-    let k = io::decimal(n as u64, &mut digits);
-    io::write_all(libc::STDOUT_FILENO, &digits[..k]);
-    io::write_all(libc::STDOUT_FILENO, b"\n");
+fn print(rt: &impl Print, n: u16) -> io::Result<()> {
+    rt.println(n)
 }
 
-fn main() {
+fn main(rt: HostRuntime) -> io::Result<()> {
     let made = engine::fresh(0);
     let asked = engine::acquire(made.cluster, LockId(0), MachineId(1), TaskId(2), 3);
     let answer = asked.answer;
-    print(answer.number() as u16);
+    print(&rt, answer.number() as u16)?;
     let sent = engine::deliver(asked.cluster, LockId(0), 0);
     let answer = sent.answer;
-    print(answer.number() as u16);
+    print(&rt, answer.number() as u16)?;
     let drained = engine::drain(sent.cluster, LockId(0));
-    print(drained.count);
+    print(&rt, drained.count)
 }

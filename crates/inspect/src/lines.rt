@@ -1,9 +1,9 @@
 // The lines of a transcript, gathered in a buffer that is written whenever it is half full.
 use crate::objects::{put_end, put_record};
 use engine::{fresh, perform};
-use libc::STDOUT_FILENO;
 use model::{Answer, Cluster, Outcome, Reading, Replayed};
 use records::reader::read_at;
+use std::io;
 use transcript::run::replay;
 
 // No line is longer: 49 packets, each with an agent and 16 waiters inside, take less.
@@ -11,31 +11,37 @@ const LONGEST: usize = 49152;
 
 const ROOM: usize = 2 * LONGEST;
 
-fn write_front(out: &[u8], n: usize) {
+fn write_front(rt: &impl Print, out: &[u8], n: usize) -> io::Result<()> {
     if n <= out.len() {
-        io::write_all(STDOUT_FILENO, &out[..n]);
+        rt.write_all(&out[..n])?;
     }
+    Ok(())
 }
 
-fn write(out: &[u8; ROOM], n: usize) {
-    write_front(out, n);
+fn write(rt: &impl Print, out: &[u8; ROOM], n: usize) -> io::Result<()> {
+    write_front(rt, out, n)
 }
 
 // The position for another line: the start, after a write, where the buffer may not hold one.
-fn room(out: &[u8; ROOM], at: usize) -> usize {
+fn room(rt: &impl Print, out: &[u8; ROOM], at: usize) -> io::Result<usize> {
     if at <= LONGEST {
-        at
+        Ok(at)
     } else {
-        write(out, at);
-        0
+        write(rt, out, at)?;
+        Ok(0)
     }
 }
 
 // A line for each record, its call made on the cluster that the one before left, the first on x; none for a transcript that is too long. Gives the position
 // behind the last line.
-fn put_records(out: &mut [u8; ROOM], start: Cluster, bytes: &[u8]) -> usize {
+fn put_records(
+    rt: &impl Print,
+    out: &mut [u8; ROOM],
+    start: Cluster,
+    bytes: &[u8],
+) -> io::Result<usize> {
     if 65535 < bytes.len() {
-        return 0;
+        return Ok(0);
     }
     let mut x = start;
     let mut at: usize = 0;
@@ -48,35 +54,40 @@ fn put_records(out: &mut [u8; ROOM], start: Cluster, bytes: &[u8]) -> usize {
                 let o = perform(call, x);
                 let y = o.cluster;
                 x = y;
-                k = room(out, k);
+                k = room(rt, out, k)?;
                 k = put_record(out, k, n, call, o);
                 at = next;
             }
             Reading::Bad => {
-                return k;
+                return Ok(k);
             }
             Reading::End => {
-                return k;
+                return Ok(k);
             }
         }
     }
-    k
+    Ok(k)
 }
 
-fn put_lines(out: &mut [u8; ROOM], x: Cluster, bytes: &[u8]) -> usize {
-    let k = put_records(out, x, bytes);
-    let k = room(out, k);
-    put_end(out, k, replay(x, bytes))
+fn put_lines(rt: &impl Print, out: &mut [u8; ROOM], x: Cluster, bytes: &[u8]) -> io::Result<usize> {
+    let k = put_records(rt, out, x, bytes)?;
+    let k = room(rt, out, k)?;
+    Ok(put_end(out, k, replay(x, bytes)))
 }
 
 // A cluster with a bad preference runs no record.
-fn put_all(out: &mut [u8; ROOM], made: Outcome, bytes: &[u8]) -> usize {
+fn put_all(
+    rt: &impl Print,
+    out: &mut [u8; ROOM],
+    made: Outcome,
+    bytes: &[u8],
+) -> io::Result<usize> {
     let a = made.answer;
     let handling = made.handling;
     let cluster = made.cluster;
     match a {
-        Answer::Accepted => put_lines(out, cluster, bytes),
-        Answer::Refused(_) => put_end(
+        Answer::Accepted => put_lines(rt, out, cluster, bytes),
+        Answer::Refused(_) => Ok(put_end(
             out,
             0,
             Replayed {
@@ -85,12 +96,12 @@ fn put_all(out: &mut [u8; ROOM], made: Outcome, bytes: &[u8]) -> usize {
                 handling,
                 cluster,
             },
-        ),
+        )),
     }
 }
 
-pub fn inspect(preference: u8, bytes: &[u8]) {
+pub fn inspect(rt: &impl Print, preference: u8, bytes: &[u8]) -> io::Result<()> {
     let mut out = [0u8; ROOM];
-    let k = put_all(&mut out, fresh(preference), bytes);
-    write(&out, k);
+    let k = put_all(rt, &mut out, fresh(preference), bytes)?;
+    write(rt, &out, k)
 }

@@ -6,9 +6,14 @@ mod lines;
 mod objects;
 mod preference;
 
-fn main() {
-    // One byte more than a transcript may have, so that a longer one shows.
-    let mut bytes = io::large_buffer();
-    let n = io::read_full(libc::STDIN_FILENO, &mut bytes);
-    lines::inspect(preference::given(), &bytes[..n]);
+use input::read_full;
+use std::io;
+
+// One byte more than a transcript may have, so that a longer one shows.
+const MOST: usize = 65536;
+
+fn main(rt: HostRuntime) -> io::Result<()> {
+    let mut bytes = [0u8; MOST];
+    let n = read_full(&mut rt.reader(), &mut bytes)?;
+    lines::inspect(&rt, preference::given(&rt), &bytes[..n])
 }

@@ -1,7 +1,6 @@
 // A record's line, and the last line, in JSON.
 use counts::{agents_in, marks_in};
 use engine::drain;
-use json::{put_comma, put_field, put_state};
 use listing::put_text;
 use lock_calls::lock_of;
 use model::{
@@ -9,6 +8,7 @@ use model::{
     MachineId, Outcome, Replayed, TASKS, TaskId,
 };
 use parts::search::first_naming;
+use state_json::{put_comma, put_field, put_state};
 
 fn put_client(out: &mut [u8], at: usize, l: LockId, m: MachineId, t: TaskId) -> usize {
     let k = put_field(out, at, b",\"lock\":", l.0 as u16);

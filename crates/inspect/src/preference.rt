@@ -1,4 +1,7 @@
 // The preference that the program is given.
+use std::env::FillError;
+use std::rt::Env;
+
 // The number with one more digit; what is no digit, and what is above 255, counts as 255.
 fn further(n: u16, b: u8) -> u16 {
     if b < b'0' {
@@ -22,12 +25,12 @@ fn number(s: &[u8]) -> u8 {
     (n % 256) as u8
 }
 
-// The first argument as a number, and 0 where there is none.
-pub fn given() -> u8 {
-    if os::arg_count() < 2 {
-        return 0;
-    }
+// The first argument as a number, and 0 where there is none; one that is too long for the buffer is no number.
+pub fn given(rt: &impl Env) -> u8 {
     let mut text = [0u8; 64];
-    let n = os::arg(1, &mut text);
-    number(&text[..n])
+    match rt.arg(1, &mut text) {
+        Ok(n) => number(&text[..n]),
+        Err(FillError::NotPresent) => 0,
+        Err(FillError::TooLong) => 255,
+    }
 }

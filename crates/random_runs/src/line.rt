@@ -1,5 +1,6 @@
 // A line of output, made in one buffer and written by one call.
-use libc::STDOUT_FILENO;
+use itoa::Buffer;
+use std::io;
 
 #[derive(Clone, Copy, Drop)]
 pub struct Line {
@@ -32,16 +33,15 @@ impl Line {
     }
 
     pub fn number(self, n: u32) -> Line {
-        let mut digits = [0u8; 20];
-        let k = io::decimal(n as u64, &mut digits);
-        self.text(&digits[..k])
+        let mut digits = Buffer::new();
+        self.text(digits.format(n).as_bytes())
     }
 
     // With the line's end.
-    pub fn write(self) {
+    pub fn write(self, rt: &impl Print) -> io::Result<()> {
         let l = self.byte(10);
         let bytes = l.bytes;
-        let n = io::count(l.len as isize, &bytes);
-        io::write_all(STDOUT_FILENO, &bytes[..n]);
+        let n = (l.len as usize).min(bytes.len());
+        rt.write_all(&bytes[..n])
     }
 }

@@ -7,6 +7,7 @@ use model::{
     ClientId, Cluster, LOCKS, LockId, LockState, MACHINES, MachineId, Outcome, TASKS, TaskId,
 };
 use parts::search::first_naming;
+use std::io;
 
 // What goes on from step to step, beside the generator.
 #[derive(Clone, Copy, Drop)]
@@ -143,7 +144,14 @@ fn heading(word: &[u8], seed: u32) -> Line {
 }
 
 // The line after each 512 steps, except the last.
-fn write_progress(word: &[u8], seed: u32, n: u16, steps: u16, digest: u32) {
+fn write_progress(
+    rt: &impl Print,
+    word: &[u8],
+    seed: u32,
+    n: u16,
+    steps: u16,
+    digest: u32,
+) -> io::Result<()> {
     if n % 512 == 0 {
         if n < steps {
             heading(word, seed)
@@ -151,12 +159,20 @@ fn write_progress(word: &[u8], seed: u32, n: u16, steps: u16, digest: u32) {
                 .number(n as u32)
                 .text(b" digest ")
                 .number(digest)
-                .write();
+                .write(rt)?;
         }
     }
+    Ok(())
 }
 
-fn write_end(word: &[u8], seed: u32, steps: u16, accepted: u16, digest: u32) {
+fn write_end(
+    rt: &impl Print,
+    word: &[u8],
+    seed: u32,
+    steps: u16,
+    accepted: u16,
+    digest: u32,
+) -> io::Result<()> {
     heading(word, seed)
         .text(b" steps ")
         .number(steps as u32)
@@ -164,11 +180,18 @@ fn write_end(word: &[u8], seed: u32, steps: u16, accepted: u16, digest: u32) {
         .number(accepted as u32)
         .text(b" digest ")
         .number(digest)
-        .write();
+        .write(rt)
 }
 
 // A run from a cluster, with its lines, which begin with the word.
-pub fn run(word: &[u8], s: &mut u32, p: Profile, seed: u32, x: Cluster) {
+pub fn run(
+    rt: &impl Print,
+    word: &[u8],
+    s: &mut u32,
+    p: Profile,
+    seed: u32,
+    x: Cluster,
+) -> io::Result<()> {
     let steps = p.steps;
     let mut r = Progress {
         cluster: x,
@@ -179,7 +202,7 @@ pub fn run(word: &[u8], s: &mut u32, p: Profile, seed: u32, x: Cluster) {
     while n < steps {
         n += 1;
         r = step(r, s, p, seed, n);
-        write_progress(word, seed, n, steps, r.digest);
+        write_progress(rt, word, seed, n, steps, r.digest)?;
     }
-    write_end(word, seed, steps, r.accepted, r.digest);
+    write_end(rt, word, seed, steps, r.accepted, r.digest)
 }

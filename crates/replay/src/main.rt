@@ -1,23 +1,27 @@
 // The program replay: runs a transcript from standard input on a fresh cluster, which prefers readers, and writes its listing.
 #![tactic(auto)]
 
-use libc::{STDIN_FILENO, STDOUT_FILENO};
+use input::read_full;
+use std::io;
+
+// One byte more than a transcript may have, so that a longer one shows.
+const MOST: usize = 65536;
 
 // No listing is longer (`longest_listing`, theorems/specs/Statements.antt).
 const ROOM: usize = 19 + 4 * 65535 + 24;
 
-fn write_front(out: &[u8], n: usize) {
+fn write_front(rt: &impl Print, out: &[u8], n: usize) -> io::Result<()> {
     if n <= out.len() {
-        io::write_all(STDOUT_FILENO, &out[..n]);
+        rt.write_all(&out[..n])?;
     }
+    Ok(())
 }
 
-fn main() {
-    // One byte more than a transcript may have, so that a longer one shows.
-    let mut bytes = io::large_buffer();
-    let n = io::read_full(STDIN_FILENO, &mut bytes);
+fn main(rt: HostRuntime) -> io::Result<()> {
+    let mut bytes = [0u8; MOST];
+    let n = read_full(&mut rt.reader(), &mut bytes)?;
     let mut out = [0u8; ROOM];
     let made = engine::fresh(0);
     let listed = transcript::run::list(made.cluster, &bytes[..n], &mut out);
-    write_front(&out, listed.written);
+    write_front(&rt, &out, listed.written)
 }

@@ -2,6 +2,7 @@
 use crate::handlings;
 use by_hand::line::{Numbers, numbers_in, place};
 use by_hand::print;
+use by_hand::print::Output;
 use model::{Call, Cluster, Handling, LockId, MachineId, Outcome, TaskId};
 use std::num::wrapping_add_u8;
 
@@ -106,42 +107,61 @@ fn read(x: Cluster, s: &[u8]) -> Done {
     unknown(x)
 }
 
-fn answered(x: Cluster, d: Done) {
-    print::number(d.answer);
+fn answered<R: Print>(out: &mut Output<'_, R>, x: Cluster, d: Done) {
+    print::number(out, d.answer);
     if d.drained {
-        print::text(b" steps ");
-        print::long(d.steps);
+        print::text(out, b" steps ");
+        print::long(out, d.steps);
     }
     if d.answer != 0 {
-        print::either(same::clusters(x, d.cluster), b" unchanged", b" CHANGED");
+        print::either(
+            out,
+            same::clusters(x, d.cluster),
+            b" unchanged",
+            b" CHANGED",
+        );
     }
 }
 
 // The call that s says: prints a and b, the answer, the handling if that is asked for, and c.
-fn told(x: Cluster, s: &[u8], a: &[u8], b: &[u8], handled: bool, c: &[u8]) -> Cluster {
+fn told<R: Print>(
+    out: &mut Output<'_, R>,
+    x: Cluster,
+    s: &[u8],
+    a: &[u8],
+    b: &[u8],
+    handled: bool,
+    c: &[u8],
+) -> Cluster {
     let d = read(x, s);
     if d.known {
-        print::text(a);
-        print::text(b);
-        answered(x, d);
+        print::text(out, a);
+        print::text(out, b);
+        answered(out, x, d);
         if handled {
             let h = d.handling;
-            handlings::told(h);
+            handlings::told(out, h);
         }
-        print::text(c);
+        print::text(out, c);
     } else {
-        print::not_understood(s);
+        print::not_understood(out, s);
     }
     d.cluster
 }
 
 // The text and the answer on a line, with the handling behind it where that is asked for.
-pub fn called(x: Cluster, s: &[u8], handled: bool) -> Cluster {
-    told(x, s, s, b": ", handled, b"\n")
+pub fn called<R: Print>(out: &mut Output<'_, R>, x: Cluster, s: &[u8], handled: bool) -> Cluster {
+    told(out, x, s, s, b": ", handled, b"\n")
 }
 
 // The call n times over, and how many of them were accepted; u is the text that says both.
-pub fn repeated(x: Cluster, n: u8, u: &[u8], s: &[u8]) -> Cluster {
+pub fn repeated<R: Print>(
+    out: &mut Output<'_, R>,
+    x: Cluster,
+    n: u8,
+    u: &[u8],
+    s: &[u8],
+) -> Cluster {
     let mut y = x;
     let mut accepted: u8 = 0;
     for i in 0..n {
@@ -153,11 +173,11 @@ pub fn repeated(x: Cluster, n: u8, u: &[u8], s: &[u8]) -> Cluster {
             }
         }
     }
-    print::text(b"times ");
-    print::text(u);
-    print::text(b": accepted ");
-    print::number(accepted);
-    print::text(b"\n");
+    print::text(out, b"times ");
+    print::text(out, u);
+    print::text(out, b": accepted ");
+    print::number(out, accepted);
+    print::text(out, b"\n");
     y
 }
 
@@ -167,9 +187,9 @@ fn chosen<'a>(first: bool, s: &'a [u8], r: &'a [u8]) -> &'a [u8] {
 
 // The call where the cluster that it gives is not kept, by the command's place: `try`, the same as `called`; `inside`, 4, and `outside`, 5, the answer alone
 // behind a word. One call for all three: each would take a cluster's room on the stack.
-pub fn tried(x: Cluster, k: usize, s: &[u8]) {
+pub fn tried<R: Print>(out: &mut Output<'_, R>, x: Cluster, k: usize, s: &[u8]) {
     let front = chosen(k == 4, b": ", chosen(k == 5, b", ", s));
     let before = chosen(k == 4, b"inside ", chosen(k == 5, b"outside ", b": "));
     let behind = chosen(k == 4, b"", b"\n");
-    told(x, s, front, before, false, behind);
+    told(out, x, s, front, before, false, behind);
 }

@@ -1,12 +1,12 @@
 // What a machine made of a request, behind a line's answer.
-use by_hand::print::text;
+use by_hand::print::{Output, text};
 use model::Handling;
 
-pub fn told(h: Handling) {
+pub fn told<R: Print>(out: &mut Output<'_, R>, h: Handling) {
     match h {
-        Handling::None => text(b", none"),
-        Handling::NoAgent => text(b", no agent"),
-        Handling::NotHolder => text(b", not a holder"),
-        Handling::Taken => text(b", taken"),
+        Handling::None => text(out, b", none"),
+        Handling::NoAgent => text(out, b", no agent"),
+        Handling::NotHolder => text(out, b", not a holder"),
+        Handling::Taken => text(out, b", taken"),
     }
 }

@@ -9,11 +9,17 @@ mod script;
 mod show;
 mod transcripts;
 
+use by_hand::print::Output;
+use input::read_full;
+use std::io;
+
 // The script has less.
 const ROOM: usize = 98304;
 
-fn main() {
+fn main(rt: HostRuntime) -> io::Result<()> {
     let mut bytes = [0u8; ROOM];
-    let n = io::read_full(libc::STDIN_FILENO, &mut bytes);
-    script::run(&bytes[..n]);
+    let n = read_full(&mut rt.reader(), &mut bytes)?;
+    let mut out = Output::new(&rt);
+    script::run(&mut out, &bytes[..n]);
+    out.end()
 }

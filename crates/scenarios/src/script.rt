@@ -2,6 +2,7 @@
 use crate::transcripts::Records;
 use crate::{call, reasons, show, transcripts};
 use by_hand::line::{Numbers, rest};
+use by_hand::print::Output;
 use by_hand::{agents, line, locks, packets, print};
 use model::{AgentSlot, Cluster, LOCKS, Packet};
 
@@ -33,14 +34,14 @@ fn nothing() -> Made {
 }
 
 // A cluster with the preference is made; the answer is printed.
-fn making(s: &[u8], n: Numbers) -> Made {
+fn making<R: Print>(out: &mut Output<'_, R>, s: &[u8], n: Numbers) -> Made {
     let made = engine::fresh(n.first);
     let a = made.answer;
-    print::text(b"make ");
-    print::text(s);
-    print::text(b": ");
-    print::number(a.number());
-    print::text(b"\n");
+    print::text(out, b"make ");
+    print::text(out, s);
+    print::text(out, b": ");
+    print::number(out, a.number());
+    print::text(out, b"\n");
     starting(made.cluster)
 }
 
@@ -52,34 +53,34 @@ fn preferring(mut m: Made, n: Numbers) -> Made {
     m
 }
 
-fn with_lock(mut m: Made, s: &[u8], n: Numbers) -> Made {
+fn with_lock<R: Print>(out: &mut Output<'_, R>, mut m: Made, s: &[u8], n: Numbers) -> Made {
     let l = n.first as usize;
     if LOCKS <= l {
-        print::not_understood(s);
+        print::not_understood(out, s);
         return m;
     }
     let mut x = m.cluster;
     let state = x.locks[l];
-    let made = locks::made(state, m.slot, m.packet, s, n);
+    let made = locks::made(out, state, m.slot, m.packet, s, n);
     x.locks[l] = made;
     m.cluster = x;
     m
 }
 
-fn with_slot(mut m: Made, s: &[u8], n: Numbers) -> Made {
-    let x = agents::made(m.slot, s, n);
+fn with_slot<R: Print>(out: &mut Output<'_, R>, mut m: Made, s: &[u8], n: Numbers) -> Made {
+    let x = agents::made(out, m.slot, s, n);
     m.slot = x;
     m
 }
 
-fn with_packet(mut m: Made, s: &[u8], n: Numbers) -> Made {
-    let p = packets::made(m.packet, m.slot, s, n);
+fn with_packet<R: Print>(out: &mut Output<'_, R>, mut m: Made, s: &[u8], n: Numbers) -> Made {
+    let p = packets::made(out, m.packet, m.slot, s, n);
     m.packet = p;
     m
 }
 
-fn with_call(mut m: Made, s: &[u8], handled: bool) -> Made {
-    let x = call::called(m.cluster, s, handled);
+fn with_call<R: Print>(out: &mut Output<'_, R>, mut m: Made, s: &[u8], handled: bool) -> Made {
+    let x = call::called(out, m.cluster, s, handled);
     m.cluster = x;
     m
 }
@@ -89,50 +90,50 @@ fn call_text(k: usize, s: &[u8]) -> &[u8] {
     if k == 12 { rest(s) } else { s }
 }
 
-fn with_times(mut m: Made, s: &[u8], n: Numbers) -> Made {
-    let x = call::repeated(m.cluster, n.first, s, rest(s));
+fn with_times<R: Print>(out: &mut Output<'_, R>, mut m: Made, s: &[u8], n: Numbers) -> Made {
+    let x = call::repeated(out, m.cluster, n.first, s, rest(s));
     m.cluster = x;
     m
 }
 
-fn with_record(mut m: Made, s: &[u8], n: Numbers) -> Made {
-    let r = transcripts::recorded(m.records, s, n);
+fn with_record<R: Print>(out: &mut Output<'_, R>, mut m: Made, s: &[u8], n: Numbers) -> Made {
+    let r = transcripts::recorded(out, m.records, s, n);
     m.records = r;
     m
 }
 
-fn with_replay(mut m: Made, s: &[u8]) -> Made {
-    let x = transcripts::replayed(m.cluster, m.records, s);
+fn with_replay<R: Print>(out: &mut Output<'_, R>, mut m: Made, s: &[u8]) -> Made {
+    let x = transcripts::replayed(out, m.cluster, m.records, s);
     m.cluster = x;
     m.records = transcripts::none();
     m
 }
 
 // Commands that leave everything as it is; r follows the first word, and kept is the cluster that was set aside.
-fn printed(m: Made, kept: Cluster, k: usize, r: &[u8]) {
+fn printed<R: Print>(out: &mut Output<'_, R>, m: Made, kept: Cluster, k: usize, r: &[u8]) {
     match k {
-        0 => print::line(r),
-        1 => print::text(r),
-        2 => show::shown(m.cluster, kept, r),
-        3 | 4 | 5 => call::tried(m.cluster, k, r),
-        6 => reasons::asked(m.cluster, r),
+        0 => print::line(out, r),
+        1 => print::text(out, r),
+        2 => show::shown(out, m.cluster, kept, r),
+        3 | 4 | 5 => call::tried(out, m.cluster, k, r),
+        6 => reasons::asked(out, m.cluster, r),
         _ => {}
     }
 }
 
 // Commands that make something; n are the command's numbers.
-fn changed(m: Made, k: usize, r: &[u8], n: Numbers) -> Made {
+fn changed<R: Print>(out: &mut Output<'_, R>, m: Made, k: usize, r: &[u8], n: Numbers) -> Made {
     match k {
         7 => nothing(),
         8 => m,
-        9 => with_lock(m, r, n),
-        10 => with_slot(m, r, n),
-        11 => with_packet(m, r, n),
-        13 => with_record(m, r, n),
-        14 => with_replay(m, r),
-        15 => making(r, n),
+        9 => with_lock(out, m, r, n),
+        10 => with_slot(out, m, r, n),
+        11 => with_packet(out, m, r, n),
+        13 => with_record(out, m, r, n),
+        14 => with_replay(out, m, r),
+        15 => making(out, r, n),
         16 => preferring(m, n),
-        17 => with_times(m, r, n),
+        17 => with_times(out, m, r, n),
         _ => m,
     }
 }
@@ -143,20 +144,20 @@ fn is_call(k: usize) -> bool {
 }
 
 // The words' places are the cases of `printed` and `changed`. A call is not one of these: a drain needs the most room on the stack.
-fn command(m: Made, kept: Cluster, s: &[u8]) -> Made {
+fn command<R: Print>(out: &mut Output<'_, R>, m: Made, kept: Cluster, s: &[u8]) -> Made {
     let k = line::place(
         s,
         0,
         b"*say *bound *show *try *inside *outside *reason *fresh *keep *lock *agent *packet *handled *record *replay *make *prefer *times",
     );
     if k < 7 {
-        printed(m, kept, k, rest(s));
+        printed(out, m, kept, k, rest(s));
         return m;
     }
     if is_call(k) {
-        return with_call(m, call_text(k, s), k == 12);
+        return with_call(out, m, call_text(k, s), k == 12);
     }
-    changed(m, k, rest(s), line::numbers_in(s))
+    changed(out, m, k, rest(s), line::numbers_in(s))
 }
 
 // A command's text: without the blank in front, and nothing of a comment.
@@ -173,11 +174,11 @@ fn text_of(s: &[u8]) -> &[u8] {
     s
 }
 
-fn done(m: Made, kept: Cluster, s: &[u8]) -> Made {
+fn done<R: Print>(out: &mut Output<'_, R>, m: Made, kept: Cluster, s: &[u8]) -> Made {
     if s.len() == 0 {
         return m;
     }
-    command(m, kept, s)
+    command(out, m, kept, s)
 }
 
 // After these commands it is this cluster that was set aside.
@@ -186,14 +187,14 @@ fn keeps(s: &[u8]) -> bool {
 }
 
 // The cluster that is set aside is no part of what is made: each step would copy it.
-pub fn run(s: &[u8]) {
+pub fn run<R: Print>(out: &mut Output<'_, R>, s: &[u8]) {
     let mut m = nothing();
     let mut kept = m.cluster;
     let mut i: usize = 0;
     while i < s.len() {
         let j = line::command_end(s, i);
         let t = text_of(&s[i..j]);
-        m = done(m, kept, t);
+        m = done(out, m, kept, t);
         if keeps(t) {
             kept = m.cluster;
         }

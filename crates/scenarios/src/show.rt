@@ -2,7 +2,7 @@
 ghost use Rattle.std.specs.Prelude.{◌<◌};
 ghost use Rattle.model.specs.States.{clients};
 
-use by_hand::print::{client, number, text};
+use by_hand::print::{Output, client, number, text};
 use by_hand::{line, print};
 use counts::{agents_in, marks_in};
 use model::{
@@ -18,193 +18,194 @@ fn mode(m: Mode) -> u8 {
     }
 }
 
-fn labelled(label: &[u8], n: u8) {
-    text(label);
-    number(n);
+fn labelled<R: Print>(out: &mut Output<'_, R>, label: &[u8], n: u8) {
+    text(out, label);
+    number(out, n);
 }
 
-fn wire(w: Wire) {
-    labelled(b"wire ", w.len);
-    text(b"\n");
+fn wire<R: Print>(out: &mut Output<'_, R>, w: Wire) {
+    labelled(out, b"wire ", w.len);
+    text(out, b"\n");
 }
 
-fn owner(o: Owner) {
+fn owner<R: Print>(out: &mut Output<'_, R>, o: Owner) {
     match o {
-        Owner::Free => text(b"free"),
+        Owner::Free => text(out, b"free"),
         Owner::Owned(m, k) => {
-            labelled(b"mode ", mode(m));
-            labelled(b", machine ", k.0);
+            labelled(out, b"mode ", mode(m));
+            labelled(out, b", machine ", k.0);
         }
     }
 }
 
-fn decider(d: Decider) {
+fn decider<R: Print>(out: &mut Output<'_, R>, d: Decider) {
     let o = d.owner;
-    text(b"decider: ");
-    owner(o);
-    labelled(b", incarnation ", d.incarnation);
+    text(out, b"decider: ");
+    owner(out, o);
+    labelled(out, b", incarnation ", d.incarnation);
     if d.writer {
-        text(b", a writer waits");
+        text(out, b", a writer waits");
     }
-    text(b"\n");
+    text(out, b"\n");
 }
 
-fn status_words(s: Status) {
+fn status_words<R: Print>(out: &mut Output<'_, R>, s: Status) {
     match s {
-        Status::Idle => text(b" idle"),
-        Status::Waiting(m) => labelled(b" waits ", mode(m)),
-        Status::Holding(m) => labelled(b" holds ", mode(m)),
+        Status::Idle => text(out, b" idle"),
+        Status::Waiting(m) => labelled(out, b" waits ", mode(m)),
+        Status::Holding(m) => labelled(out, b" holds ", mode(m)),
     }
 }
 
-fn status(clients: [ClientState; CLIENTS], c: u8) {
+fn status<R: Print>(out: &mut Output<'_, R>, clients: [ClientState; CLIENTS], c: u8) {
     if CLIENTS as u8 <= c {
-        print::out_of_range();
+        print::out_of_range(out);
         return;
     }
     let y = clients[c as usize];
     let z = y.status;
-    client(c);
-    status_words(z);
+    client(out, c);
+    status_words(out, z);
     if y.lost {
-        text(b", its GRANT was lost");
+        text(out, b", its GRANT was lost");
     }
-    text(b"\n");
+    text(out, b"\n");
 }
 
-fn listed(set: [bool; CLIENTS], c: u8)
+fn listed<R: Print>(out: &mut Output<'_, R>, set: [bool; CLIENTS], c: u8)
     requires { c < clients }
 {
     if set[c as usize] {
-        text(b" ");
-        client(c);
+        text(out, b" ");
+        client(out, c);
     }
 }
 
-fn holders(set: [bool; CLIENTS]) {
+fn holders<R: Print>(out: &mut Output<'_, R>, set: [bool; CLIENTS]) {
     let mut c: u8 = 0;
     while c < CLIENTS as u8 {
-        listed(set, c);
+        listed(out, set, c);
         c += 1;
     }
 }
 
-fn waiter(w: Waiter) {
+fn waiter<R: Print>(out: &mut Output<'_, R>, w: Waiter) {
     let c = w.client;
     let m = w.mode;
-    text(b" ");
-    client(c.0);
-    labelled(b":", mode(m));
+    text(out, b" ");
+    client(out, c.0);
+    labelled(out, b":", mode(m));
 }
 
-fn waiters(slots: [Waiter; QUEUE_CAPACITY], n: u8) {
+fn waiters<R: Print>(out: &mut Output<'_, R>, slots: [Waiter; QUEUE_CAPACITY], n: u8) {
     for i in 0..QUEUE_CAPACITY {
         if n as usize <= i {
             return;
         }
         let w = slots[i];
-        waiter(w);
+        waiter(out, w);
     }
 }
 
-fn queue(q: Queue) {
+fn queue<R: Print>(out: &mut Output<'_, R>, q: Queue) {
     let slots = q.slots;
-    waiters(slots, q.len);
+    waiters(out, slots, q.len);
 }
 
-fn agent(a: Agent) {
+fn agent<R: Print>(out: &mut Output<'_, R>, a: Agent) {
     let m = a.mode;
     let set = a.holders;
     let q = a.queue;
-    labelled(b": mode ", mode(m));
-    labelled(b", incarnation ", a.incarnation);
-    text(b", holders");
-    holders(set);
-    text(b", queue");
-    queue(q);
+    labelled(out, b": mode ", mode(m));
+    labelled(out, b", incarnation ", a.incarnation);
+    text(out, b", holders");
+    holders(out, set);
+    text(out, b", queue");
+    queue(out, q);
 }
 
-fn present(x: AgentSlot) {
+fn present<R: Print>(out: &mut Output<'_, R>, x: AgentSlot) {
     if x.present {
-        agent(x.agent);
+        agent(out, x.agent);
     } else {
-        text(b": none");
+        text(out, b": none");
     }
 }
 
 // The agent of the machine, or none.
-fn machine(agents: [AgentSlot; MACHINES], k: u8) {
+fn machine<R: Print>(out: &mut Output<'_, R>, agents: [AgentSlot; MACHINES], k: u8) {
     if MACHINES as u8 <= k {
-        print::out_of_range();
+        print::out_of_range(out);
         return;
     }
     let slot = agents[k as usize];
-    labelled(b"machine ", k);
-    present(slot);
-    text(b"\n");
+    labelled(out, b"machine ", k);
+    present(out, slot);
+    text(out, b"\n");
 }
 
 // The agents, on machines and in packets, and the marked ACQUIREs.
-fn counted(s: LockState) {
-    labelled(b"agents ", agents_in(s));
-    labelled(b", marked ", marks_in(s));
-    text(b"\n");
+fn counted<R: Print>(out: &mut Output<'_, R>, s: LockState) {
+    labelled(out, b"agents ", agents_in(s));
+    labelled(out, b", marked ", marks_in(s));
+    text(out, b"\n");
 }
 
-fn found(f: Found) {
+fn found<R: Print>(out: &mut Output<'_, R>, f: Found) {
     match f {
-        Found::Nowhere => text(b": nowhere\n"),
+        Found::Nowhere => text(out, b": nowhere\n"),
         Found::At(index) => {
-            labelled(b": index ", index);
-            text(b"\n");
+            labelled(out, b": index ", index);
+            text(out, b"\n");
         }
     }
 }
 
 // The first packet that names the client.
-fn named(w: Wire, c: u8) {
-    text(b"named ");
-    client(c);
-    found(first_naming(w, ClientId(c)));
+fn named<R: Print>(out: &mut Output<'_, R>, w: Wire, c: u8) {
+    text(out, b"named ");
+    client(out, c);
+    found(out, first_naming(w, ClientId(c)));
 }
 
 // How often the packet at the index has circled.
-fn circled(w: Wire, i: u8) {
+fn circled<R: Print>(out: &mut Output<'_, R>, w: Wire, i: u8) {
     if WIRE_CAPACITY as u8 <= i {
-        print::out_of_range();
+        print::out_of_range(out);
         return;
     }
     let a = w.slots;
     let p = a[i as usize];
-    labelled(b"index ", i);
-    labelled(b" circled ", p.circled);
-    text(b"\n");
+    labelled(out, b"index ", i);
+    labelled(out, b" circled ", p.circled);
+    text(out, b"\n");
 }
 
-fn lock(s: LockState, k: usize, n: u8) {
+fn lock<R: Print>(out: &mut Output<'_, R>, s: LockState, k: usize, n: u8) {
     let c = s.clients;
     let a = s.agents;
     match k {
-        2 => status(c, n),
-        3 => decider(s.decider),
-        4 => machine(a, n),
-        5 => wire(s.wire),
-        6 => counted(s),
-        8 => named(s.wire, n),
-        9 => circled(s.wire, n),
+        2 => status(out, c, n),
+        3 => decider(out, s.decider),
+        4 => machine(out, a, n),
+        5 => wire(out, s.wire),
+        6 => counted(out, s),
+        8 => named(out, s.wire, n),
+        9 => circled(out, s.wire, n),
         _ => {}
     }
 }
 
-fn preference(n: u8) {
-    labelled(b"preference ", n);
-    text(b"\n");
+fn preference<R: Print>(out: &mut Output<'_, R>, n: u8) {
+    labelled(out, b"preference ", n);
+    text(out, b"\n");
 }
 
 // The cluster is as it was made, with its preference.
-fn fresh(x: Cluster) {
+fn fresh<R: Print>(out: &mut Output<'_, R>, x: Cluster) {
     let made = engine::fresh(x.preference);
     print::either(
+        out,
         same::clusters(x, made.cluster),
         b": fresh\n",
         b": not fresh\n",
@@ -212,17 +213,23 @@ fn fresh(x: Cluster) {
 }
 
 // The cluster y is the one that was kept. The words' places are the cases here and in `lock`.
-pub fn shown(x: Cluster, y: Cluster, t: &[u8]) {
+pub fn shown<R: Print>(out: &mut Output<'_, R>, x: Cluster, y: Cluster, t: &[u8]) {
     let n = line::numbers_in(t);
     let k = line::word(
+        out,
         t,
         n.count,
         b"0fresh 0kept 1client 0decider 1machine 0wire 0counts 0preference 1named 1circled",
     );
     match k {
-        0 => fresh(x),
-        1 => print::either(same::clusters(x, y), b": as kept\n", b": not as kept\n"),
-        7 => preference(x.preference),
-        _ => lock(x.locks[0], k, n.first),
+        0 => fresh(out, x),
+        1 => print::either(
+            out,
+            same::clusters(x, y),
+            b": as kept\n",
+            b": not as kept\n",
+        ),
+        7 => preference(out, x.preference),
+        _ => lock(out, x.locks[0], k, n.first),
     }
 }

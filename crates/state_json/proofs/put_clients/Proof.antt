@@ -2,8 +2,8 @@ use mathlib.Core.Path.{◌≡◌}
 use Prim.Native.Nat.{◌-◌}
 use lib.ListN.{length}
 use borrow.Author.Rules.{rules}
-use Rattle.json.proofs.put_clients.Statement.{statement}
-use Rattle.json.proofs.put_clients.Tie as tie
+use Rattle.state_json.proofs.put_clients.Statement.{statement}
+use Rattle.state_json.proofs.put_clients.Tie as tie
 
 pub put-clients-spec : {M : Type 1} → statement M
 put-clients-spec = tie.close (tie.spec (λ out₀ _ _ _ _ _ out _ _. length out ≡ length out₀) (λ _ _ _ _ _ _ _ _ i. 16 - i)
