@@ -95,30 +95,35 @@ fn codes(a: Code, b: Code) -> bool
     (a.variant == b.variant) & ((a.id == b.id) & ((a.mode == b.mode) & (a.mark == b.mark)))
 }
 
+#[tactic(auto, using(crate::proofs::CodesLemmas::modes))]
 fn modes(m: Mode, n: Mode) -> bool
     ensures { Decides result m n }
 {
     mode_number(m) == mode_number(n)
 }
 
+#[tactic(auto, using(crate::proofs::CodesLemmas::owners))]
 fn owners(o: Owner, p: Owner) -> bool
     ensures { Decides result o p }
 {
     codes(owner_code(o), owner_code(p))
 }
 
+#[tactic(auto, using(crate::proofs::CodesLemmas::addresses))]
 fn addresses(t: Address, u: Address) -> bool
     ensures { Decides result t u }
 {
     codes(address_code(t), address_code(u))
 }
 
+#[tactic(auto, using(crate::proofs::CodesLemmas::statuses))]
 fn statuses(s: Status, t: Status) -> bool
     ensures { Decides result s t }
 {
     codes(status_code(s), status_code(t))
 }
 
+#[tactic(auto, using(crate::proofs::CodesLemmas::messages))]
 fn messages(m: Message, n: Message) -> bool
     ensures { Decides result m n }
 {
