@@ -1,5 +1,5 @@
 -- The drain of one lock's state, by the same steps as the drain of a cluster, without its calls' tests.
-use Rattle.std.specs.Prelude.{◌≡◌, Bool, true, false, drop, get_or, set, ltb}
+use Rattle.std.specs.Prelude.{◌≡◌, Bool, true, false, drop, get_or, ltb}
 use Rattle.std.proofs.Math.Path.{refl, sym, subst}
 use Rattle.std.proofs.Common.{ap, ◌∙◌, true≢false, arith, set-set, get_or-set_same, drop-cons}
 use mathlib.Core.List.{List, [], ◌∷◌}

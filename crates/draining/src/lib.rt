@@ -96,6 +96,7 @@ fn turn_of(a: [ClientState; CLIENTS]) -> Turn
 }
 
 // n is the cluster's preference.
+#[tactic(auto, unfolding(crate::specs::DrainState::turn_step))]
 fn plan_turn(n: u8, s: LockState, t: Turn) -> Plan
     requires { Ready s }
     ensures { Plans result s (turn_step n s t) }
@@ -133,6 +134,7 @@ fn told_next(t: Told, next: Handling) -> Told
 }
 
 // The answer to the drain's next step, planned with the answer a: with no step left the drain ends.
+#[tactic(auto, using(crate::specs::DrainState::within_some), unfolding(crate::specs::DrainState::within))]
 fn step_answer(left: u16, a: Answer) -> Answer
     ensures { result ≡ within left a }
 {
@@ -278,6 +280,7 @@ fn drain_lock(x: Cluster, l: LockId) -> Drained
 }
 
 // Drains a lock: delivers, releases and gives up until it is quiescent.
+#[tactic(auto, using(crate::specs::DrainState::drain_malformed, crate::specs::DrainState::drain_range))]
 pub fn drain(x: Cluster, l: LockId) -> Drained
     ensures { result ≡ drain x l }
 {

@@ -19,6 +19,7 @@ pub use formed::well_formed;
 pub use making::fresh;
 pub use waiting::reason;
 
+#[tactic(auto, unfolding(model::specs::Calls::perform))]
 pub fn acquire(x: Cluster, lock: LockId, machine: MachineId, task: TaskId, mode: u8) -> Outcome
     ensures { result ≡ acquire x lock machine task mode }
 {
@@ -33,6 +34,7 @@ pub fn acquire(x: Cluster, lock: LockId, machine: MachineId, task: TaskId, mode:
     )
 }
 
+#[tactic(auto, unfolding(model::specs::Calls::perform))]
 pub fn release(x: Cluster, lock: LockId, machine: MachineId, task: TaskId) -> Outcome
     ensures { result ≡ release x lock machine task }
 {
@@ -47,6 +49,7 @@ pub fn release(x: Cluster, lock: LockId, machine: MachineId, task: TaskId) -> Ou
 }
 
 // Delivers the packet at the index on the lock's wire.
+#[tactic(auto, unfolding(model::specs::Calls::perform))]
 pub fn deliver(x: Cluster, lock: LockId, index: u8) -> Outcome
     ensures { result ≡ deliver x lock index }
 {
@@ -54,6 +57,7 @@ pub fn deliver(x: Cluster, lock: LockId, index: u8) -> Outcome
 }
 
 // Loses the GRANT without agent at the index on the lock's wire.
+#[tactic(auto, unfolding(model::specs::Calls::perform))]
 pub fn lose(x: Cluster, lock: LockId, index: u8) -> Outcome
     ensures { result ≡ lose x lock index }
 {
@@ -61,6 +65,7 @@ pub fn lose(x: Cluster, lock: LockId, index: u8) -> Outcome
 }
 
 // A waiting client asks no longer.
+#[tactic(auto, unfolding(model::specs::Calls::perform))]
 pub fn give_up(x: Cluster, lock: LockId, machine: MachineId, task: TaskId) -> Outcome
     ensures { result ≡ give_up x lock machine task }
 {
@@ -98,6 +103,7 @@ fn perform_on(l: LockId, c: Call, x: Cluster) -> Outcome
     }
 }
 
+#[tactic(auto, using(lock_calls::specs::LockCalls::perform_range, lock_calls::specs::LockCalls::perform_malformed))]
 pub fn perform(c: Call, x: Cluster) -> Outcome
     ensures { result ≡ perform c x }
 {

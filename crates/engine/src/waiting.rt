@@ -9,6 +9,7 @@ use lock_calls::{client_of, range_test};
 use model::{Answer, Cluster, LOCKS, LockId, LockState, MachineId, ReasonAnswer, Refusal, TaskId};
 use reasons::reason_in;
 
+#[tactic(auto, unfolding(model::specs::Refusals::first, model::specs::Reasons::reason_unless))]
 fn reason_on(s: LockState, k: MachineId, t: TaskId) -> ReasonAnswer
     ensures { result ≡ reason_unless (first (reason_tests k t)) s (client_of k t) }
 {
@@ -19,6 +20,7 @@ fn reason_on(s: LockState, k: MachineId, t: TaskId) -> ReasonAnswer
     }
 }
 
+#[tactic(auto, unfolding(model::specs::Reasons::reason, model::specs::Reasons::reason_unless, model::specs::Refusals::first))]
 pub fn reason(x: Cluster, lock: LockId, machine: MachineId, task: TaskId) -> ReasonAnswer
     ensures { result ≡ reason x lock machine task }
 {

@@ -1,2 +1,0 @@
--- What the proofs cite.
-mod Base
