@@ -8,12 +8,15 @@ use borrow.Author.Tests.{eq-eqb, lt-ltb, leb-true, leb-false}
 use Rattle.model.specs.Lists.{pick, any, all, removed}
 use Rattle.laws.specs.Names.{MachineId, ClientId, Mode, Shared, Owner, Unowned, Owned, Waiter, Agent, AgentSlot, Address, ToDecider, ToMachine, Message}
 use Rattle.laws.specs.Names.{Free, Acquire, Grant, Release, Packet, Status, Idle, Waiting, ClientState, Site, LockState, Stepped}
-use Rattle.model.specs.States.{resent, queue_of, waiters, packets, some_agent, new_agent, machine_of, is_shared, machines, clients, queue_capacity, wire_capacity}
+use Rattle.model.specs.States.{resent, queue_of, waiters, packets, some_agent, new_agent, machine_of, is_shared, machines, clients, queue_capacity}
+use Rattle.model.specs.States.{wire_capacity}
 use Rattle.model.specs.States.{prefers_writers, is_waiting}
-use Rattle.model.specs.WellFormed.{client_in_range, owner_in_range, address_in_range, is_client, waiter_in_range, slot_formed, message_formed, packet_formed, lock_formed}
+use Rattle.model.specs.WellFormed.{client_in_range, owner_in_range, address_in_range, is_client, waiter_in_range, slot_formed, message_formed}
+use Rattle.model.specs.WellFormed.{packet_formed, lock_formed}
 use Rattle.model.specs.WellFormed.{decider_formed, client_formed}
 use Rattle.model.specs.Changes.{site_of, with_slot, with_status, Verdict, cannot_place, does, apply, finish}
-use Rattle.model.specs.Asking.{changed, queuing, no_room, with_room, may_join, client_asks, client_acquires, any_holder, without, hand_over, stays_if, leaves, lists}
+use Rattle.model.specs.Asking.{changed, queuing, no_room, with_room, may_join, client_asks, client_acquires, any_holder, without, hand_over, stays_if}
+use Rattle.model.specs.Asking.{leaves, lists}
 use Rattle.model.specs.Asking.{client_releases, writer_in, client_gives_up, grant_is_lost}
 use Rattle.model.specs.AtDecider.{to_owner, decides_release, grants_with, may_share, decides_acquire, current, decides_free, decides_grant, decides, at_decider}
 use Rattle.model.specs.AtMachine.{sent_back, admitted, grant_of, requeued, installs, grant_arrives, rejected_grant_arrives, marked, unmarked, acquire_arrives}

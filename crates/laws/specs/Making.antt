@@ -6,9 +6,11 @@ use Rattle.std.proofs.Math.Seq.{drop-append_seam}
 use Rattle.std.proofs.lemmas.Bool.{eqb-false, not-true}
 use Rattle.model.specs.Lists.{any, all, padded}
 use Rattle.laws.specs.Names.{ClientId, Mode, Address, ToDecider, Message, Free, Acquire, Grant, Release, Waiter, Queue, Agent, Packet}
-use Rattle.model.specs.States.{plain, blank_waiter, blank_packet, queue_of, waiters, wire_of, some_agent, no_agent, machine_of, machines, clients, queue_capacity}
+use Rattle.model.specs.States.{plain, blank_waiter, blank_packet, queue_of, waiters, wire_of, some_agent, no_agent, machine_of, machines, clients}
+use Rattle.model.specs.States.{queue_capacity}
 use Rattle.model.specs.States.{wire_capacity, carrying, resent}
-use Rattle.model.specs.WellFormed.{client_in_range, machine_in_range, address_in_range, shaped, is_blank_waiter, is_client, distinct, waiter_in_range, queue_formed}
+use Rattle.model.specs.WellFormed.{client_in_range, machine_in_range, address_in_range, shaped, is_blank_waiter, is_client, distinct, waiter_in_range}
+use Rattle.model.specs.WellFormed.{queue_formed}
 use Rattle.model.specs.WellFormed.{agent_formed, is_blank_agent, slot_formed, message_formed, circled_formed, packet_formed, is_blank_packet, wire_formed}
 use Rattle.model.specs.Asking.{changed}
 use Rattle.model.specs.AtMachine.{one_more, sent_back}

@@ -10,7 +10,8 @@ use Rattle.model.specs.declared.Replayed.{Replayed}
 use Rattle.model.specs.declared.Reading.{Reading}
 use Rattle.model.specs.declared.Reading.TheVariants.{Record, Bad, End}
 use Rattle.model.specs.Calls.{perform, latest}
-use Rattle.model.specs.Transcripts.{short, acquire_at, release_at, deliver_at, lose_at, give_up_at, whole_record, read_record, replayed, replay_from, calls_from}
+use Rattle.model.specs.Transcripts.{short, acquire_at, release_at, deliver_at, lose_at, give_up_at, whole_record, read_record, replayed, replay_from}
+use Rattle.model.specs.Transcripts.{calls_from}
 use Rattle.model.specs.Listing.{kind_of, row_of, line_of, refused_line, lines_from}
 use Rattle.laws.specs.Tests.{and_right, pick_by}
 

@@ -7,7 +7,8 @@ use Rattle.theorems.specs.Names.{shares, current, rejects, passes_on, to_owner, 
 use Rattle.theorems.specs.Names.{and_left, and_right, both, waiters_of, Decider, ◌∙◌, false≢true, machines, clients, owned_shared, may_share, slot_in}
 use Rattle.theorems.specs.Names.{in_parts, plain, true≢false}
 use Rattle.theorems.specs.Tally.{flag, tally, tally_any, tally_none, tally_add}
-use Rattle.theorems.specs.Weights.{status_at, slot_at, weight, ask_m, queued_s, waiting_p, mark_m, listed_s, listed_p, owed_m, owed_p, release_m, release_p, agent_s}
+use Rattle.theorems.specs.Weights.{status_at, slot_at, weight, ask_m, queued_s, waiting_p, mark_m, listed_s, listed_p, owed_m, owed_p, release_m}
+use Rattle.theorems.specs.Weights.{release_p, agent_s}
 use Rattle.theorems.specs.Weights.{agent_p, incarnation_s, incarnation_p, mark_all, mark_p, rejected_p, vacant_s, hold_f, owned_f, clash, far_m, far_p, far_f}
 use Rattle.theorems.specs.Weights.{waited_f, owned_mode, misfit_s, fits_away, fits_free, fits, misfit_p, client_in, idle_f}
 use Rattle.theorems.specs.Invariant.{Inv}
@@ -210,7 +211,8 @@ module _ (pref : ℕ) (r : LockState) (rest : List Packet) (i : Inv r) (j : Mach
         fitting = rw (o, pl.named);
         slot = i.homes j.0;
         reach = omega (arith, near_home c pl.below, near_owner r Shared k i o);
-        vacancy = vacancy_by _ (plain (Grant c Shared) (ToMachine (machine_of c)) ∷ plain (Acquire c Shared true) (ToMachine k) ∷ []) i sp jj refl (omega arith);
+        vacancy = vacancy_by _ (plain (Grant c Shared) (ToMachine (machine_of c)) ∷ plain (Acquire c Shared true) (ToMachine k) ∷ []) i sp jj refl
+            (omega arith);
       })
 
   -- ---- a FREE, a GRANT with agent

@@ -9,7 +9,8 @@ use Rattle.theorems.specs.Names.{slot_in, in_parts, Waiter, Status, Idle, Waitin
 use Rattle.theorems.specs.Names.{taken_off, with_note, is_waiting, grant_is_lost, ClientState, set-get_or, ap, false≢true}
 use Rattle.theorems.specs.Tally.{tally, tally_at, flag}
 use Rattle.theorems.specs.Weights.{status_at, slot_at, weight, same_mode, one, hit, hit_w, ask_m, queued_s, waiting_p, mark_m, listed_s, listed_p, owed_m}
-use Rattle.theorems.specs.Weights.{release_m, release_p, agent_s, agent_p, incarnation_s, mark_all, rejected_p, heads, vacant_s, wait_f, hold_f, idle_f, owned_mode}
+use Rattle.theorems.specs.Weights.{release_m, release_p, agent_s, agent_p, incarnation_s, mark_all, rejected_p, heads, vacant_s, wait_f, hold_f, idle_f}
+use Rattle.theorems.specs.Weights.{owned_mode}
 use Rattle.theorems.specs.Weights.{owned_at, few, fits_home, misfit_s, fits_away, fits_free, fits, misfit_p, client_in, note_at, note_f, owed_p, clash}
 use Rattle.theorems.specs.Invariant.{Inv}
 use Rattle.theorems.specs.InvariantStep.{Keeps, Split, untold, told_by_lem, note_below, keep_step, keep, keep_calm, keep_mild, vacancy_by, framed, still}

@@ -7,7 +7,8 @@ use Rattle.model.specs.declared.{Address.TheVariants.{Decider as ToDecider, Mach
 use Rattle.model.specs.declared.{Message.TheVariants.{Free, Acquire, Grant, Release}, Packet.Packet, Wire.Wire, Status.Status}
 use Rattle.model.specs.declared.{Status.TheVariants.{Idle, Waiting, Holding}, ClientState.ClientState, LockState.LockState, Cluster.Cluster}
 use Rattle.model.specs.Lists.{any, all, padded}
-use Rattle.model.specs.States.{locks, machines, tasks, clients, queue_capacity, wire_capacity, blank_waiter, queue_of, no_holders, new_agent, some_agent, no_agent}
+use Rattle.model.specs.States.{locks, machines, tasks, clients, queue_capacity, wire_capacity, blank_waiter, queue_of, no_holders, new_agent, some_agent}
+use Rattle.model.specs.States.{no_agent}
 use Rattle.model.specs.States.{idle, plain, blank_packet, wire_of, fresh_lock, preferences}
 use Rattle.model.specs.Drain.{allowance}
 use Rattle.model.specs.WellFormed.{shaped, is_blank_waiter, distinct, queue_formed, agent_formed, is_blank_agent, slot_formed, message_formed, packet_formed}
@@ -265,6 +266,7 @@ abbrev Tested : List Bound → Type 0
 Tested bs = (all (λ (b : Bound). well_formed b.within) bs ≡ true) × (any (λ (b : Bound). well_formed b.outside) bs ≡ false)
 
 pub bounds_tested : Tested of_locks × Tested of_preferences × Tested of_slots × Tested of_carried × Tested of_messages × Tested of_wires × Tested of_notes
-unfolding well_formed lock_formed wire_formed packet_formed message_formed slot_formed agent_formed is_blank_agent is_blank_packet is_blank_waiter queue_formed distinct
+unfolding well_formed lock_formed wire_formed packet_formed message_formed slot_formed agent_formed is_blank_agent is_blank_packet is_blank_waiter
+    queue_formed distinct
     client_formed shaped padded queue_of no_agent blank_packet wire_of fresh_lock
 bounds_tested = ((refl, refl), (refl, refl), (refl, refl), (refl, refl), (refl, refl), (refl, refl), (refl, refl))

@@ -120,7 +120,8 @@ all_so p q h (x ∷ xs) e = both (q x) _ (h x (and_left (p x) _ e)) (all_so p q 
 drain_placed : (x : Cluster) (l : LockId) (phase : ClientId → Status) (lost : ClientId → Bool) → Drains x l phase lost
     → all is_placed ((drain x l).answer ∷ answers_of (drain_calls l x) x) ≡ true
 drain_placed x l phase lost d =
-    both (is_placed (drain x l).answer) _ (rw (is_placed, d.answered)) (all_so is_accepted is_placed accepted_placed (answers_of (drain_calls l x) x) d.accepted)
+    both (is_placed (drain x l).answer) _ (rw (is_placed, d.answered))
+    (all_so is_accepted is_placed accepted_placed (answers_of (drain_calls l x) x) d.accepted)
 
 pub enough_places : (n : ℕ) (cs : List Call) → EnoughPlaces n cs
 unfolding owned_f

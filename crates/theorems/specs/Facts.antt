@@ -7,9 +7,11 @@ use Rattle.theorems.specs.Names.{ltb-false, lt-ltb, leb-true, le-leb, some_agent
 use Rattle.theorems.specs.Names.{machines, clients, wire_capacity, machine_of, owned_shared, true≢false, is_shared, is_free, message_names, ClientState}
 use Rattle.theorems.specs.Tally.{flag, tally, tally_set, tally_at, tally_le, tally_none, tally_add, tally_length, sum_to, sum_swap, sum_le, sum_ext}
 use Rattle.theorems.specs.Tally.{sum_one}
-use Rattle.theorems.specs.Weights.{status_at, slot_at, weight, same_mode, one, hit, hit_w, ask_m, queued_s, waiting_p, mark_m, listed_s, listed_p, owed_m, owed_p}
+use Rattle.theorems.specs.Weights.{status_at, slot_at, weight, same_mode, one, hit, hit_w, ask_m, queued_s, waiting_p, mark_m, listed_s, listed_p, owed_m}
+use Rattle.theorems.specs.Weights.{owed_p}
 use Rattle.theorems.specs.Weights.{release_m, release_p, agent_s, agent_p, incarnation_s, incarnation_p, mark_all, mark_p, rejected_p, heads, vacant_s, wait_f}
-use Rattle.theorems.specs.Weights.{waits_f, hold_f, idle_f, owned_f, clash, far_m, far_f, owned_mode, owned_at, few, fits_home, misfit_s, fits_away, in_range, fits}
+use Rattle.theorems.specs.Weights.{waits_f, hold_f, idle_f, owned_f, clash, far_m, far_f, owned_mode, owned_at, few, fits_home, misfit_s, fits_away}
+use Rattle.theorems.specs.Weights.{in_range, fits}
 use Rattle.theorems.specs.Weights.{fits_p, misfit_p, note_at, note_f}
 use Rattle.theorems.specs.Invariant.{Inv}
 use Rattle.theorems.specs.InvariantStep.{Split, told}

@@ -9,7 +9,8 @@ use Rattle.model.specs.WellFormed.{is_blank_packet, wire_formed, client_formed, 
 use Rattle.model.specs.Changes.{finish}
 use Rattle.model.specs.Asking.{client_asks, client_acquires, hand_over, stays_if, client_releases, client_gives_up}
 use Rattle.model.specs.AtDecider.{to_owner, decides_acquire, decides_release, decides_free, decides_grant, decides, at_decider}
-use Rattle.model.specs.AtMachine.{admitted, staying, joined, installs, grant_arrives, rejected_grant_arrives, marked, unmarked, acquire_arrives, release_arrives}
+use Rattle.model.specs.AtMachine.{admitted, staying, joined, installs, grant_arrives, rejected_grant_arrives, marked, unmarked, acquire_arrives}
+use Rattle.model.specs.AtMachine.{release_arrives}
 use Rattle.model.specs.AtMachine.{free_arrives, arrives, at_machine}
 use Rattle.model.specs.Refusals.{first}
 use Rattle.model.specs.Calls.{delivers, acquire_step, release_step, takes, deliver_step, settled, unless, acquire, release, deliver, perform, run, packet_at}
@@ -94,8 +95,10 @@ pub figures_hold : (n : Name) → Right (screens n)
 unfolding give_up give_up_step client_gives_up
     run perform acquire release deliver unless settled first acquire_step release_step deliver_step takes finish delivers
     client_formed
-    well_formed lock_formed wire_formed packet_formed message_formed slot_formed agent_formed is_blank_agent is_blank_packet is_blank_waiter queue_formed distinct shaped
-    at_decider decides decides_acquire decides_release decides_free decides_grant to_owner at_machine arrives acquire_arrives release_arrives free_arrives marked unmarked
+    well_formed lock_formed wire_formed packet_formed message_formed slot_formed agent_formed is_blank_agent is_blank_packet is_blank_waiter queue_formed
+    distinct shaped
+    at_decider decides decides_acquire decides_release decides_free decides_grant to_owner at_machine arrives acquire_arrives release_arrives free_arrives
+    marked unmarked
     grant_arrives rejected_grant_arrives may_share may_join installs admitted staying joined client_acquires client_asks client_releases stays_if hand_over
     count padded removed queue_of waiters no_agent blank_packet wire_of packets fresh_lock
 figures_hold D1 = refl

@@ -10,7 +10,8 @@ use Rattle.theorems.specs.Names.{LockId, MachineId, TaskId, ClientId, Mode, Agen
 use Rattle.theorems.specs.Names.{Packet, Idle, Waiting, Unowned, ClientState, Site, LockState, Cluster, LoseCall, GiveUpCall, DeliverCall}
 use Rattle.theorems.specs.Names.{Accepted, Stepped, ◌≡◌, refl, sym, ap, ◌∙◌, Bool, true, false, ◌&&◌, ◌||◌, not, false≢true, List, [], ◌∷◌, ◌++◌, map, ℕ}
 use Rattle.theorems.specs.Names.{◌+◌, ◌≤◌, ◌<◌, arith, length, get_or, set, set-get_or, leb, le-leb, lt-leb, removed, locks, machines, tasks, wire_capacity}
-use Rattle.theorems.specs.Names.{client_of, agent_on, no_agent, idle, status_of, is_waiting, plain, resent, waiters, packets, lock_in, client_formed, well_formed}
+use Rattle.theorems.specs.Names.{client_of, agent_on, no_agent, idle, status_of, is_waiting, plain, resent, waiters, packets, lock_in, client_formed}
+use Rattle.theorems.specs.Names.{well_formed}
 use Rattle.theorems.specs.Names.{site_of, cannot_place, does, apply, finish, grant_of, admitted, installed, installs, grant_arrives, arrives, at_machine}
 use Rattle.theorems.specs.Names.{at_decider, decides, decides_release, client_gives_up, grant_is_lost, packet_at, delivers, takes, deliver_step, give_up_step}
 use Rattle.theorems.specs.Names.{drops, lose_step, is_grant}

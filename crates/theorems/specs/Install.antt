@@ -144,7 +144,13 @@ module _ (pref : ℕ) (r : LockState) (rest : List Packet) (k : MachineId) (c : 
           client = becoming (Holding n) i known.below (clash_none r.decider.owner n known.mode) no_note (rw e (omega (arith, i.most c.0)));
           waits = λ d m.
               rw (waiters_of (staying n line))
-              (omega (arith, bare.queued_s d m, moved (wait_f m) d, grants_count n (waiting_p d m) (hit_w d m) (λ e. omega arith) line, parted n (hit_w d m) line));
+              (omega (
+                arith,
+                bare.queued_s d m,
+                moved (wait_f m) d,
+                grants_count n (waiting_p d m) (hit_w d m) (λ e. omega arith) line,
+                parted n (hit_w d m) line,
+              ));
           holds = λ d.
               omega (
                 arith,

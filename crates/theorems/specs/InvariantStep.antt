@@ -7,7 +7,8 @@ use Rattle.theorems.specs.Names.{get_or-set_same, get_or-set_other, removed, idl
 use Rattle.theorems.specs.Names.{machines, sym, with_slot, Owned, noting}
 use Rattle.theorems.specs.Tally.{flag, tally, tally_le, tally_add, tally_one, tally_append, tally_removed, tally_set, tally_at}
 use Rattle.theorems.specs.Weights.{status_at, slot_at, weight, queued_s, waiting_p, listed_s, listed_p, owed_p, release_p, agent_s, agent_p, incarnation_s}
-use Rattle.theorems.specs.Weights.{incarnation_p, mark_p, rejected_p, vacant_s, wait_f, hold_f, idle_f, owned_f, clash, far_p, far_f, misfit_s, misfit_p, waited_f}
+use Rattle.theorems.specs.Weights.{incarnation_p, mark_p, rejected_p, vacant_s, wait_f, hold_f, idle_f, owned_f, clash, far_p, far_f, misfit_s, misfit_p}
+use Rattle.theorems.specs.Weights.{waited_f}
 use Rattle.theorems.specs.Weights.{client_in, note_at, note_f, shared_f, one, hit, ask_m, owed_m, release_m}
 use Rattle.theorems.specs.Invariant.{Inv}
 
@@ -305,7 +306,8 @@ becoming {r} {c} st i cl cs nn fr =
         go (no n) = rw (there d n) q
 
     free_by : (d : ℕ) → Dec (d ≡ c.0)
-        → weight (waiting_p d Exclusive) (queued_s d Exclusive) r + weight (waiting_p d Shared) (queued_s d Shared) r + flag (note_at r d) + idle_f (status_at r d)
+        → weight (waiting_p d Exclusive) (queued_s d Exclusive) r + weight (waiting_p d Shared) (queued_s d Shared) r
+        + flag (note_at r d) + idle_f (status_at r d)
         ≤ 1 + idle_f (told r c (plainly st) d).status
     free_by d (yes e) = rw (e, here) (omega (arith, fr, ap flag nn))
     free_by d (no n) = rw (there d n) (omega (arith, i.most d))
@@ -473,7 +475,8 @@ keep_mild {r} {k} {c} {old} {v} {gone} {qs} {rest} i l =
 
 -- the vacancy, from the slot and the packets of the step alone
 pub vacancy_by : {r : LockState} {old : AgentSlot} {k : MachineId} {gone rest : List Packet} (new : AgentSlot) (sends : List Packet) → Inv r → Split r gone rest
-    → k.0 < machines → slot_at r k.0 ≡ old → tally rejected_p sends + vacant_s new + tally mark_p gone ≤ tally rejected_p gone + vacant_s old + tally mark_p sends
+    → k.0 < machines → slot_at r k.0 ≡ old
+    → tally rejected_p sends + vacant_s new + tally mark_p gone ≤ tally rejected_p gone + vacant_s old + tally mark_p sends
     → tally rejected_p rest + tally rejected_p sends + tally vacant_s (set r.agents k.0 new) ≤ tally mark_p rest + tally mark_p sends
 unfolding weight
 vacancy_by {r} {old} {k} new sends i sp kk e h =

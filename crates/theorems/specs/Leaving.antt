@@ -4,7 +4,8 @@ use Rattle.theorems.specs.Names.{true≢false, false≢true, List, [], ◌∷◌
 use Rattle.theorems.specs.Names.{some_agent, listed, queue_of, waiters, no_agent, Site, with_slot, changed, any_holder, without, departing, lists, hand_over}
 use Rattle.theorems.specs.Names.{stays_if, leaves, waiters_of, machines, clients, site_of, with_status, with_note, ClientState, owned_shared}
 use Rattle.theorems.specs.Weights.{note_at, status_at, slot_at, one, hit, ask_m, queued_s, waiting_p, mark_m, listed_s, listed_p, owed_m, owed_p, release_m}
-use Rattle.theorems.specs.Weights.{release_p, agent_s, agent_p, incarnation_s, incarnation_p, mark_all, mark_p, rejected_p, heads, vacant_s, wait_f, hold_f, idle_f}
+use Rattle.theorems.specs.Weights.{release_p, agent_s, agent_p, incarnation_s, incarnation_p, mark_all, mark_p, rejected_p, heads, vacant_s, wait_f}
+use Rattle.theorems.specs.Weights.{hold_f, idle_f}
 use Rattle.theorems.specs.Weights.{far_p, few, misfit_s, fits_away, fits_free, fits, misfit_p}
 use Rattle.theorems.specs.Tally.{flag, tally, tally_set}
 use Rattle.theorems.specs.Invariant.{Inv}
@@ -96,7 +97,8 @@ module _ (pref : ℕ) (r : LockState) (i : Inv r) (k : MachineId) (kk : k.0 < ma
 
   -- none remains: by the queue
   keep_none : any_holder hs ≡ false → (ws : List Waiter) → waiters a.queue ≡ ws → Keeps r k c rest (with_slot site no_agent) (hand_over a hs ws ∷ [])
-  unfolding hand_over tally ask_m mark_m owed_m release_m mark_all queued_s listed_s agent_s incarnation_s vacant_s misfit_p misfit_s fits fits_free queue_of no_agent
+  unfolding hand_over tally ask_m mark_m owed_m release_m mark_all queued_s listed_s agent_s incarnation_s vacant_s misfit_p misfit_s fits fits_free
+      queue_of no_agent
   keep_none no_one [] q =
       keep_left no_agent (departing Free a hs [] ∷ []) (λ d n. rw (q, waiters_of [])) (λ d. omega arith) (λ d. (refl, refl)) refl (omega arith) refl
       (rw (home.mode, away no_one [])) refl refl refl

@@ -20,8 +20,10 @@ pub use Rattle.model.specs.declared.{Found.Found, Found.TheVariants.{Nowhere, At
 pub use Rattle.model.specs.declared.{Handling.Handling, Handling.TheVariants.{None, NoAgent, NotHolder, Taken}}
 pub use Rattle.model.specs.declared.{Stepped.Stepped, Outcome.Outcome, Drained.Drained}
 -- ---- the library
-pub use Rattle.std.specs.Prelude.{◌≡◌, refl, Bool, true, false, ◌&&◌, ◌||◌, not, List, [], ◌∷◌, ◌++◌, map, ℕ, zero, suc, ◌+◌, ◌-◌, ◌*◌, ◌≤◌, ◌<◌, ◌%◌, min, max, length, get_or, set, replicate, eqb, leb, ltb}
-pub use Rattle.std.proofs.Common.{sym, ap, ◌∙◌, true≢false, arith, length-set, length-append, get_or-set_same, get_or-set_other, eqb-true, eq-eqb, ne_eqb, ltb-true, ltb-false, lt-ltb, leb-true, leb-false, le-leb}
+pub use Rattle.std.specs.Prelude.{◌≡◌, refl, Bool, true, false, ◌&&◌, ◌||◌, not, List, [], ◌∷◌, ◌++◌, map, ℕ, zero, suc, ◌+◌, ◌-◌, ◌*◌, ◌≤◌, ◌<◌, ◌%◌, min}
+pub use Rattle.std.specs.Prelude.{max, length, get_or, set, replicate, eqb, leb, ltb}
+pub use Rattle.std.proofs.Common.{sym, ap, ◌∙◌, true≢false, arith, length-set, length-append, get_or-set_same, get_or-set_other, eqb-true, eq-eqb, ne_eqb}
+pub use Rattle.std.proofs.Common.{ltb-true, ltb-false, lt-ltb, leb-true, leb-false, le-leb}
 pub use Rattle.std.proofs.Math.Bool.{and-true, and-false}
 pub use Rattle.std.proofs.lemmas.Bool.{false≢true, eqb-false, lt-leb}
 pub use Rattle.std.proofs.Math.Decide.{ℕ_discrete}
@@ -30,7 +32,8 @@ pub use Rattle.std.proofs.lemmas.List.{set-get_or}
 -- ---- the model and its laws
 pub use Rattle.model.specs.Lists.{pick, any, all, IsFirst}
 unfoldable pub use Rattle.model.specs.Lists.{count, is_at, indices, removed}
-pub use Rattle.model.specs.States.{locks, machines, tasks, clients, queue_capacity, wire_capacity, client_of, machine_of, mode_of, is_shared, no_holders, new_agent}
+pub use Rattle.model.specs.States.{locks, machines, tasks, clients, queue_capacity, wire_capacity, client_of, machine_of, mode_of, is_shared, no_holders}
+pub use Rattle.model.specs.States.{new_agent}
 pub use Rattle.model.specs.States.{some_agent, agent_on, listed, idle, status_of, note_of, is_waiting, plain, carrying, resent, unowned, lock_in, preferences}
 pub use Rattle.model.specs.States.{prefers_writers}
 unfoldable pub use Rattle.model.specs.States.{queue_of, waiters, no_agent, blank_packet, wire_of, packets, fresh_lock, fresh_with}
@@ -48,7 +51,8 @@ unfoldable pub use Rattle.model.specs.AtMachine.{acquire_arrives}
 unfoldable pub use Rattle.model.specs.AtMachine.{release_arrives, free_arrives, arrives, at_machine, handles}
 pub use Rattle.model.specs.Calls.{refusing, is_holding, message_names, names, machine_at, client_named, packet_at, answers_of, after, lock_of}
 pub use Rattle.model.specs.Calls.{handlings_of, latest, is_grant}
-unfoldable pub use Rattle.model.specs.Calls.{delivers, acquire_step, release_step, takes, deliver_step, settled, unless, acquire, release, deliver, perform, run}
+unfoldable pub use Rattle.model.specs.Calls.{delivers, acquire_step, release_step, takes, deliver_step, settled}
+unfoldable pub use Rattle.model.specs.Calls.{unless, acquire, release, deliver, perform, run}
 unfoldable pub use Rattle.model.specs.Calls.{give_up_step, drops, lose_step, can_be_lost, lose, give_up}
 unfoldable pub use Rattle.model.specs.Calls.{handled_at, last_told, fresh}
 pub use Rattle.model.specs.Refusals.{refusal_number, number}

@@ -104,7 +104,8 @@ questions gave_up = asks gave_up_is 0 1 0 (15 ∷ [])
 pub questions_answered : (n : Name) → Answered (questions n)
 unfolding reason reason_unless reason_in first_true reasons_in in_queues is_true is_at indices first
     client_formed
-    well_formed lock_formed wire_formed packet_formed message_formed slot_formed agent_formed is_blank_agent is_blank_packet is_blank_waiter queue_formed distinct shaped
+    well_formed lock_formed wire_formed packet_formed message_formed slot_formed agent_formed is_blank_agent is_blank_packet is_blank_waiter queue_formed
+    distinct shaped
     padded queue_of waiters no_agent blank_packet wire_of packets fresh_lock
 questions_answered requested = refl
 questions_answered granted = refl

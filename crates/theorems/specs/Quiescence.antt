@@ -41,7 +41,8 @@ blank_slots [] f z = refl
 blank_slots (x ∷ xs) f z =
     rw (blank_slot x (and_left (slot_formed x) _ f) (absent_of x (omega arith)), ← blank_slots xs (and_right (slot_formed x) _ f) (omega arith))
 
-idle_clients : (cs : List ClientState) → ((d : ℕ) → (get_or cs d idle).status ≡ Idle) → ((d : ℕ) → (get_or cs d idle).lost ≡ false) → cs ≡ replicate (length cs) idle
+idle_clients : (cs : List ClientState) → ((d : ℕ) → (get_or cs d idle).status ≡ Idle) → ((d : ℕ) → (get_or cs d idle).lost ≡ false)
+    → cs ≡ replicate (length cs) idle
 idle_clients [] h n = refl
 idle_clients (c ∷ cs) h n =
     let e : c.status ≡ Idle = h 0 in

@@ -6,7 +6,8 @@ use Rattle.theorems.specs.Names.{Call, Refusal, Answer, Accepted, Refused, NotWa
 use Rattle.theorems.specs.Names.{ReasonAnswer, Because, NoReason, ◌≡◌, refl, sym, ap, ◌∙◌, Bool, true, false, false≢true, List, [], ◌∷◌, ◌++◌, map, ℕ}
 use Rattle.theorems.specs.Names.{zero, suc, ◌+◌, ◌≤◌, ◌<◌, arith, lt-leb, get_or, is_at, indices, is_client, waiters, status_of, lock_in, after, phase_after}
 use Rattle.theorems.specs.Names.{client_of, locks, machines, tasks, bool_cases, and_right, requests, grants, grant_rejected, queued_in, is_true, in_queues}
-use Rattle.theorems.specs.Names.{reasons_in, first_true, is_waiting, reason_in, reason_unless, reason, reason_number, reason_values, refusal_number, is_accepted}
+use Rattle.theorems.specs.Names.{reasons_in, first_true, is_waiting, reason_in, reason_unless, reason, reason_number, reason_values, refusal_number}
+use Rattle.theorems.specs.Names.{is_accepted}
 use Rattle.model.specs.Refusals.{first}
 use Rattle.laws.specs.Lists.{at_map}
 use Rattle.theorems.specs.Tally.{flag, tally}
@@ -134,7 +135,8 @@ unfolding reason_in
 searches s c = record { sound = sound; complete = complete }
   where
     sound : (r : Reason) → reason_in s c ≡ Because r → is_true s c r ≡ true
-    sound r e = bool_cases (is_waiting (status_of s c)) (λ w. found_true s c (reasons_in s) r (rw w at e)) (λ w. absurd (false≢true (ap is_because (rw w at e))))
+    sound r e = bool_cases (is_waiting (status_of s c)) (λ w. found_true s c (reasons_in s) r (rw w at e))
+        (λ w. absurd (false≢true (ap is_because (rw w at e))))
 
     complete : (m : Mode) (r : Reason) → status_of s c ≡ Waiting m → is_true s c r ≡ true → reason_number (reason_in s c) ≡ 0
     complete m r w h =

@@ -133,7 +133,8 @@ unfolding tally
 same_owner {rest = rest} {qs} w h = record { down = omega (arith, h, ap free_f w, tally_append trip_p rest qs); along = λ b. rw w }
 
 -- or where the agent was in p, or nowhere, and the row is 1 from now on
-pub other_owner : {o o' : Owner} {p : Packet} {rest qs : List Packet} → tally agent_p rest ≡ 0 → tally trip_p qs + free_f o' ≡ 1 → agent_p p + 1 ≡ trip_p p + free_f o
+pub other_owner : {o o' : Owner} {p : Packet} {rest qs : List Packet} → tally agent_p rest ≡ 0 → tally trip_p qs + free_f o' ≡ 1
+    → agent_p p + 1 ≡ trip_p p + free_f o
     → Frame o o' p rest qs
 unfolding tally
 other_owner {o} {o'} {p} {rest} {qs} z h was =

@@ -10,7 +10,8 @@ use Rattle.model.specs.States.{no_agent, wire_of, packets, lock_in, fresh_lock}
 use Rattle.model.specs.WellFormed.{well_formed}
 use Rattle.model.specs.Refusals.{◌when◌, first}
 use Rattle.model.specs.Calls.{perform, lock_of, run}
-use Rattle.model.specs.Drain.{allowance, Next, none, some, next_call, Quiescent, Drainage, drainage, drain_calls, drain_refused, drain_ended, drain_unless, drain}
+use Rattle.model.specs.Drain.{allowance, Next, none, some, next_call, Quiescent, Drainage, drainage, drain_calls, drain_refused, drain_ended, drain_unless}
+use Rattle.model.specs.Drain.{drain}
 use Rattle.laws.specs.Finding.{first_is}
 use Rattle.laws.specs.CallSteps.{perform_elsewhere}
 use Rattle.laws.specs.Next.{NextIs, delivers_first, releases_holder, gives_up, next_is}

@@ -8,14 +8,16 @@ use Rattle.theorems.specs.Names.{LockId, MachineId, ClientId, Mode, Exclusive, S
 use Rattle.theorems.specs.Names.{Message, Free, Acquire, Grant, Release, Packet, Status, Idle, Waiting, Holding, ClientState, LockState, Cluster, Call}
 use Rattle.theorems.specs.Names.{Handling, None, NoAgent, NotHolder, Taken, handlings_of, AcquireCall, ReleaseCall, DeliverCall, LoseCall, GiveUpCall}
 use Rattle.theorems.specs.Names.{locks, machines, clients, carrying, resent, may_join, may_share, number}
-use Rattle.model.specs.States.{queue_of, waiters, no_holders, new_agent, some_agent, no_agent, idle, plain, blank_packet, wire_of, packets, fresh_lock, status_of}
+use Rattle.model.specs.States.{queue_of, waiters, no_holders, new_agent, some_agent, no_agent, idle, plain, blank_packet, wire_of, packets, fresh_lock}
+use Rattle.model.specs.States.{status_of}
 use Rattle.model.specs.States.{note_of, unowned}
 use Rattle.model.specs.WellFormed.{shaped, is_blank_waiter, distinct, queue_formed, agent_formed, is_blank_agent, slot_formed, message_formed, packet_formed}
 use Rattle.model.specs.WellFormed.{is_blank_packet, wire_formed, client_formed, lock_formed, well_formed}
 use Rattle.model.specs.Changes.{finish}
 use Rattle.model.specs.Asking.{client_asks, client_acquires, hand_over, stays_if, client_releases, client_gives_up, grant_is_lost}
 use Rattle.model.specs.AtDecider.{to_owner, decides_acquire, decides_release, decides_free, decides_grant, decides, at_decider}
-use Rattle.model.specs.AtMachine.{admitted, staying, joined, installs, grant_arrives, rejected_grant_arrives, marked, unmarked, acquire_arrives, release_arrives}
+use Rattle.model.specs.AtMachine.{admitted, staying, joined, installs, grant_arrives, rejected_grant_arrives, marked, unmarked, acquire_arrives}
+use Rattle.model.specs.AtMachine.{release_arrives}
 use Rattle.model.specs.AtMachine.{taken_off, free_arrives, arrives, at_machine, handles}
 use Rattle.model.specs.Refusals.{first}
 use Rattle.model.specs.Calls.{delivers, handled_at, acquire_step, release_step, takes, deliver_step, settled, unless, acquire, release, deliver, perform, run}
@@ -508,8 +510,10 @@ unfolding lose give_up give_up_step lose_step drops can_be_lost client_gives_up 
     run perform acquire release deliver unless settled first acquire_step release_step deliver_step takes finish delivers
     handled_at handles drain drain_unless drain_ended drainage next_of release_first
     client_formed
-    well_formed lock_formed wire_formed packet_formed message_formed slot_formed agent_formed is_blank_agent is_blank_packet is_blank_waiter queue_formed distinct shaped
-    at_decider decides decides_acquire decides_release decides_free decides_grant to_owner at_machine arrives acquire_arrives release_arrives free_arrives marked unmarked
+    well_formed lock_formed wire_formed packet_formed message_formed slot_formed agent_formed is_blank_agent is_blank_packet is_blank_waiter queue_formed
+    distinct shaped
+    at_decider decides decides_acquire decides_release decides_free decides_grant to_owner at_machine arrives acquire_arrives release_arrives free_arrives
+    marked unmarked
     grant_arrives rejected_grant_arrives may_share may_join installs admitted staying joined client_acquires client_asks client_releases stays_if hand_over
     padded removed queue_of waiters no_agent blank_packet wire_of packets fresh_lock watch sees numbers_of numbers_after same_numbers
 scenarios_hold D1 = (refl, refl)

@@ -391,12 +391,14 @@ pub record StaysIdle (s t : LockState) (i : ℕ) (k : MachineId) (c : ClientId) 
 pub record GoesRound (x : Cluster) (l : LockId) (i : ℕ) : Type 0 where
   pub always : well_formed x ≡ true → l.0 < locks → i < length (packets (lock_in x l).wire) → (deliver x l i).answer ≡ Accepted
   pub last : (deliver x l i).answer ≡ Accepted
-      → lock_in (deliver x l i).cluster l ≡ written (lock_in x l) (lock_in x l).clients (removed (packets (lock_in x l).wire) i ++ packet_at (lock_in x l) i ∷ [])
+      → lock_in (deliver x l i).cluster l
+      ≡ written (lock_in x l) (lock_in x l).clients (removed (packets (lock_in x l).wire) i ++ packet_at (lock_in x l) i ∷ [])
 
 pub record LosesAndGivesUp (x : Cluster) (l : LockId) : Type 0 where
   pub loses : (i : ℕ) → Loses x l i
   pub gives_up : (k : MachineId) (t : TaskId) → GivesUp x l k t
-  pub stays_idle : (i : ℕ) (k : MachineId) (c : ClientId) (m : Mode) → (packet_at (lock_in x l) i).to ≡ ToMachine k → (packet_at (lock_in x l) i).message ≡ Grant c m
+  pub stays_idle : (i : ℕ) (k : MachineId) (c : ClientId) (m : Mode) → (packet_at (lock_in x l) i).to ≡ ToMachine k → (packet_at (lock_in x l) i).message
+      ≡ Grant c m
       → (packet_at (lock_in x l) i).rejected ≡ false → status_of (lock_in x l) c ≡ Idle → (deliver x l i).answer ≡ Accepted
       → StaysIdle (lock_in x l) (lock_in (deliver x l i).cluster l) i k c m
   pub goes_round : (i : ℕ) (c : ClientId) → (lock_in x l).decider.owner ≡ Unowned → (packet_at (lock_in x l) i).to ≡ ToDecider

@@ -779,9 +779,11 @@ deliver_falls pref r i p ps e =
 -- ---- a client that holds releases, where the wire is empty; or one that has lost its GRANT gives up
 module _ (pref : ℕ) (r : LockState) (i : Inv r) (c : ClientId) (below : c.0 < clients) (empty : packets r.wire ≡ [])
     (counts : waits_f (status_at r c.0) + hold_f (status_at r c.0) ≡ 1) (is-owned : free_f r.decider.owner ≡ 0) where
-  idled : (d : ℕ) → let st = (told r c (plainly Idle) d).status in 3 * (waits_f st + hold_f st) + 3 * one d c ≡ 3 * (waits_f (status_at r d) + hold_f (status_at r d))
+  idled : (d : ℕ) → let st = (told r c (plainly Idle) d).status in 3 * (waits_f st + hold_f st) + 3 * one d c
+      ≡ 3 * (waits_f (status_at r d) + hold_f (status_at r d))
   idled d =
-      told_by_lem (plainly Idle) i below d (λ y. 3 * (waits_f y.status + hold_f y.status) + 3 * one d c ≡ 3 * (waits_f (status_at r d) + hold_f (status_at r d)))
+      told_by_lem (plainly Idle) i below d
+      (λ y. 3 * (waits_f y.status + hold_f y.status) + 3 * one d c ≡ 3 * (waits_f (status_at r d) + hold_f (status_at r d)))
       (λ q. rw q (unfold waits_f hold_f in omega (arith, one_self c, counts))) (λ q. omega (arith, one_none d c q))
 
   own_leaves : (v : Site) (a : Agent) (qs : List Packet) → v.decider.owner ≡ r.decider.owner → client_at v ≡ plainly Idle

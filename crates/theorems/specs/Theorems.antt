@@ -71,7 +71,8 @@ others_untouched n cs a l other = perform_elsewhere a (after n cs) l other
 pub exclusion : (n : ℕ) (cs : List Call) → Exclusion n cs
 exclusion n cs l c d m other hc hd = one_exclusive (lock_in (after n cs) l) ((reached n cs).invs l) c.0 d.0 m other hc hd
 
-pub as_seen_lem : (n : ℕ) (cs : List Call) (l : LockId) (c : ClientId) → as_seen (watch l c cs (fresh n).cluster unseen) ≡ client_in (lock_in (after n cs) l) c.0
+pub as_seen_lem : (n : ℕ) (cs : List Call) (l : LockId) (c : ClientId) → as_seen (watch l c cs (fresh n).cluster unseen)
+    ≡ client_in (lock_in (after n cs) l) c.0
 as_seen_lem n cs l c =
     agrees cs l c (fresh n).cluster unseen (reached_fresh n) (sym (ap (λ (s : LockState). client_in s c.0) (lock_fresh n l) ∙ clients_idle c.0))
 

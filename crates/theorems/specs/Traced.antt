@@ -11,7 +11,8 @@ use Rattle.theorems.specs.Names.{client_releases, current, to_owner, decides_acq
 use Rattle.theorems.specs.Names.{grant_arrives, rejected_grant_arrives, marked, unmarked, acquire_arrives, release_arrives, free_arrives, arrives, at_machine}
 use Rattle.theorems.specs.Names.{names, machine_at, client_named, packet_at, delivers, acquire_step, release_step, takes, deliver_step, perform, lock_of, run}
 use Rattle.theorems.specs.Names.{View, is_accepted, to_machine, is_grant_for, shows_grant, after_acquire, after_grant, sees, watch, bool_cases, clients}
-use Rattle.theorems.specs.Names.{wire_capacity, in_parts, may_share, after_loss, is_waiting, granted_in, queues, give_up_step, client_gives_up, lose_step, drops}
+use Rattle.theorems.specs.Names.{wire_capacity, in_parts, may_share, after_loss, is_waiting, granted_in, queues, give_up_step, client_gives_up, lose_step}
+use Rattle.theorems.specs.Names.{drops}
 use Rattle.theorems.specs.Names.{can_be_lost, grant_is_lost, decides_release, eqb, false≢true}
 use Rattle.model.specs.Changes.{refused}
 use Rattle.theorems.specs.Weights.{status_at, listed_s, listed_p, client_in}
@@ -319,7 +320,8 @@ abbrev client_of_lem : ℕ → ClientId
 client_of_lem n = record { 0 = n }
 
 own : (pref : ℕ) (a : Call) (s : LockState) (x y : Cluster) (c : ClientId) (v : View) → Allowed a s → Inv s → lock_in x (lock_of a) ≡ s
-    → lock_in y (lock_of a) ≡ (step_of pref a s).state → as_seen v ≡ client_in s c.0 → as_seen (sees (lock_of a) c a x y v) ≡ client_in (lock_in y (lock_of a)) c.0
+    → lock_in y (lock_of a) ≡ (step_of pref a s).state → as_seen v ≡ client_in s c.0
+    → as_seen (sees (lock_of a) c a x y v) ≡ client_in (lock_in y (lock_of a)) c.0
 unfolding sees
 own pref _ s x y c v (may_acquire {l = l} {k = k} {t = t} {m = m} kb tb n id un) i ex ey e = go (ℕ_discrete c.0 (client_of k t).0)
   where

@@ -75,7 +75,8 @@ unfolding hit one
 single_of d c Exclusive ws h = rw (none_leaves ws).0 (unfold tally in omega (arith, one_le d c))
 single_of d c Shared ws h = omega (arith, admitted_below d Shared ws)
 
-pub grants_fit : (o : Owner) (n : Mode) → owned_mode o n ≡ true → (ws : List Waiter) → tally far_w ws ≡ 0 → tally (misfit_p o) (map grant_of (admitted n ws)) ≡ 0
+pub grants_fit : (o : Owner) (n : Mode) → owned_mode o n ≡ true → (ws : List Waiter) → tally far_w ws ≡ 0
+    → tally (misfit_p o) (map grant_of (admitted n ws)) ≡ 0
 grants_fit o Exclusive e ws h = rw (none_leaves ws).0 (unfold tally in refl)
 grants_fit o Shared e ws h =
     omega (arith, grants_count Shared (misfit_p o) far_w (λ c. unfold misfit_p fits no_agent in rw (and-true)) ws, parted Shared far_w ws)
@@ -105,37 +106,38 @@ pub line_once : (ws : List Waiter) (d : ℕ) → tally (one_w d) ws ≡ tally (h
 line_once ws d = tally_ext (one_w d) _ (λ w. sym (hits d w.client w.mode)) ws ∙ tally_add (hit_w d Exclusive) (hit_w d Shared) ws
 
 -- the list is counted among what asks
-module _ (r : LockState) (i : Inv r) (line : List Waiter) (counted : (d : ℕ) (m : Mode) → tally (hit_w d m) line ≤ weight (waiting_p d m) (queued_s d m) r) where
-  pub none_far : tally far_w line ≡ 0
-  none_far =
-      far_none line (λ d m h. let w : weight (waiting_p d m) (queued_s d m) r ≡ 0 = none m d (far_absent r d i h) in omega (arith, counted d m))
-    where
-      none : (m : Mode) (d : ℕ) → weight (waiting_p d Exclusive) (queued_s d Exclusive) r + weight (waiting_p d Shared) (queued_s d Shared) r ≡ 0
-          → weight (waiting_p d m) (queued_s d m) r ≡ 0
-      none Exclusive d e = omega arith
-      none Shared d e = omega arith
+module _ (r : LockState) (i : Inv r) (line : List Waiter) (counted : (d : ℕ) (m : Mode) → tally (hit_w d m) line ≤ weight (waiting_p d m) (queued_s d m) r)
+  where
+    pub none_far : tally far_w line ≡ 0
+    none_far =
+        far_none line (λ d m h. let w : weight (waiting_p d m) (queued_s d m) r ≡ 0 = none m d (far_absent r d i h) in omega (arith, counted d m))
+      where
+        none : (m : Mode) (d : ℕ) → weight (waiting_p d Exclusive) (queued_s d Exclusive) r + weight (waiting_p d Shared) (queued_s d Shared) r ≡ 0
+            → weight (waiting_p d m) (queued_s d m) r ≡ 0
+        none Exclusive d e = omega arith
+        none Shared d e = omega arith
 
-  pub room : (c : ClientId) → c.0 < clients → ((d : ℕ) → tally (one_w d) line + one d c ≤ 1)
-      → (any (is_client c) line || leb queue_capacity (length line)) ≡ false
-  room c cl once =
-      let sums = sum_add clients (λ d. tally (one_w d) line) (λ d. one d c) in
-      let few : length line < clients =
-      omega (arith, line_length line none_far, sum_le clients 1 (λ d. tally (one_w d) line + one d c) once, one_each c (lt-ltb c.0 clients cl)) in
-      rw (any_none c line (omega (arith, once c.0, one_self c)), lt-leb queue_capacity (length line) few)
+    pub room : (c : ClientId) → c.0 < clients → ((d : ℕ) → tally (one_w d) line + one d c ≤ 1)
+        → (any (is_client c) line || leb queue_capacity (length line)) ≡ false
+    room c cl once =
+        let sums = sum_add clients (λ d. tally (one_w d) line) (λ d. one d c) in
+        let few : length line < clients =
+        omega (arith, line_length line none_far, sum_le clients 1 (λ d. tally (one_w d) line + one d c) once, one_each c (lt-ltb c.0 clients cl)) in
+        rw (any_none c line (omega (arith, once c.0, one_self c)), lt-leb queue_capacity (length line) few)
 
-  -- the client that comes asks for nothing else
-  pub room_idle : (c : ClientId) → c.0 < clients
-      → weight (waiting_p c.0 Exclusive) (queued_s c.0 Exclusive) r + weight (waiting_p c.0 Shared) (queued_s c.0 Shared) r ≡ 0
-      → (any (is_client c) line || leb queue_capacity (length line)) ≡ false
-  unfolding one
-  room_idle c cl none = room c cl once
-    where
-      once : (d : ℕ) → tally (one_w d) line + one d c ≤ 1
-      once d =
-          bool_cases (eqb c.0 d)
-          (λ q. let e : c.0 ≡ d = eqb-true c.0 d q in
-          omega (arith, line_once line d, counted d Exclusive, counted d Shared, rw e at none, one_le d c))
-          (λ q. rw q (omega (arith, line_once line d, counted d Exclusive, counted d Shared, i.most d)))
+    -- the client that comes asks for nothing else
+    pub room_idle : (c : ClientId) → c.0 < clients
+        → weight (waiting_p c.0 Exclusive) (queued_s c.0 Exclusive) r + weight (waiting_p c.0 Shared) (queued_s c.0 Shared) r ≡ 0
+        → (any (is_client c) line || leb queue_capacity (length line)) ≡ false
+    unfolding one
+    room_idle c cl none = room c cl once
+      where
+        once : (d : ℕ) → tally (one_w d) line + one d c ≤ 1
+        once d =
+            bool_cases (eqb c.0 d)
+            (λ q. let e : c.0 ≡ d = eqb-true c.0 d q in
+            omega (arith, line_once line d, counted d Exclusive, counted d Shared, rw e at none, one_le d c))
+            (λ q. rw q (omega (arith, line_once line d, counted d Exclusive, counted d Shared, i.most d)))
 
 -- the client that comes asks by its packet, which is counted too
 pub room_waiting : (r : LockState) (i : Inv r) (line : List Waiter) (c : ClientId) (n : Mode) → c.0 < clients
@@ -145,7 +147,8 @@ room_waiting r i line c n cl h =
     room r i line (λ d m. omega (arith, h d m)) c cl (λ d. omega (arith, h d Exclusive, h d Shared, hits d c n, i.most d, line_once line d))
 
 -- ---- a client joins a queue's end
-pub queued_one : (a : Agent) (c : ClientId) (n : Mode) (d : ℕ) (m : Mode) → queued_s d m (some_agent (queuing a c n)) ≡ queued_s d m (some_agent a) + hit d m c n
+pub queued_one : (a : Agent) (c : ClientId) (n : Mode) (d : ℕ) (m : Mode) → queued_s d m (some_agent (queuing a c n))
+    ≡ queued_s d m (some_agent a) + hit d m c n
 unfolding queued_s tally
 queued_one a c n d m =
     let last : List Waiter = record { client = c; mode = n } ∷ [] in
