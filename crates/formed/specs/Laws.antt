@@ -1,5 +1,6 @@
 -- Well-formedness: the one pass over a queue that tests ranges and that no client stands twice.
-use Rattle.std.specs.Prelude.{◌≡◌, refl, Bool, true, false, ◌&&◌, ◌||◌, List, [], ◌∷◌, ℕ, zero, suc, ◌+◌, ◌<◌, ◌≤◌, length, take, drop, get_or, set, replicate, eqb, leb}
+use Rattle.std.specs.Prelude.{◌≡◌, refl, Bool, true, false, ◌&&◌, ◌||◌, List, [], ◌∷◌, ℕ, zero, suc, ◌+◌, ◌<◌, ◌≤◌}
+use Rattle.std.specs.Prelude.{length, take, drop, get_or, set, replicate, eqb, leb}
 use Rattle.std.proofs.Common.{sym, ◌∙◌, arith, length-set, get_or-set_same, get_or-set_other}
 use Rattle.std.proofs.Math.Bool.{not, and-true, and-false, and_assoc}
 use Rattle.std.proofs.Math.Decide.{ℕ_discrete}
@@ -105,7 +106,8 @@ regroup true false d a n = refl
 regroup false true d a n = sym (and-false (a && d))
 regroup false false d a n = refl
 
-pub one_pass : (seen : List Bool) (ws : List Waiter) → length seen ≡ clients → all_new seen ws ≡ (all waiter_in_range ws && (distinct ws && all (is_new seen) ws))
+pub one_pass : (seen : List Bool) (ws : List Waiter) → length seen ≡ clients
+    → all_new seen ws ≡ (all waiter_in_range ws && (distinct ws && all (is_new seen) ws))
 unfolding all_new distinct
 one_pass seen [] e = refl
 one_pass seen (w ∷ ws) e =

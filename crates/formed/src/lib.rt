@@ -7,7 +7,8 @@ ghost use Rattle.model.specs.Lists.{all};
 ghost use Rattle.model.specs.States.{locks, machines, clients, queue_capacity, wire_capacity, is_shared};
 ghost use Rattle.model.specs.declared.Message.TheVariants.{Free};
 ghost use Rattle.model.specs.WellFormed.{client_in_range, owner_in_range, decider_formed, address_in_range, shaped, is_blank_waiter, distinct, waiter_in_range};
-ghost use Rattle.model.specs.WellFormed.{queue_formed, agent_formed, is_blank_agent, slot_formed, to_decider, message_formed, circled_formed, packet_formed, is_free};
+ghost use Rattle.model.specs.WellFormed.{queue_formed, agent_formed, is_blank_agent, slot_formed, to_decider};
+ghost use Rattle.model.specs.WellFormed.{message_formed, circled_formed, packet_formed, is_free};
 ghost use Rattle.model.specs.WellFormed.{is_blank_packet, wire_formed, client_formed, lock_formed, well_formed};
 
 use model::{

@@ -7,8 +7,8 @@ ghost use Rattle.std.specs.Prelude.{◌≡◌, true, ◌||◌, not, List, ◌<�
 ghost use Rattle.model.specs.States.{machines, tasks, client_of, mode_of};
 ghost use Rattle.model.specs.WellFormed.{to_decider, lock_formed};
 ghost use Rattle.model.specs.Refusals.{Cause, first};
-ghost use Rattle.model.specs.Calls.{is_idle, is_holding, is_grant, can_be_lost, idle_tests, acquire_tests, holding_tests, release_tests, waiting_tests, give_up_tests};
-ghost use Rattle.model.specs.Calls.{lock_of};
+ghost use Rattle.model.specs.Calls.{is_idle, is_holding, is_grant, can_be_lost, idle_tests, acquire_tests, holding_tests, release_tests};
+ghost use Rattle.model.specs.Calls.{waiting_tests, give_up_tests, lock_of};
 ghost use Rattle.laws.specs.Shapes.{CanonicalWire};
 ghost use Rattle.planning.specs.Plans.{Plans};
 ghost use Rattle.lock_calls.specs.LockCalls.{range_tests, further, acquire_on, release_on, deliver_on, lose_on, give_up_on, call_on};

@@ -7,7 +7,8 @@ use Prim.Native.Nat.{ℕ, suc, ◌+◌, ◌-◌, ◌<◌, ◌≤◌}
 use Rattle.std.proofs.Math.Numerals.{add-one}
 use native.Mathlib.Omega.{arith}
 use Rattle.std.proofs.Math.ListN.{length, drop_of_length-le, length-set, length-append}
-use Rattle.std.proofs.Math.Seq.{length-take-le, take-suc-set, append_snoc, take-set-lt, take-append_seam, drop-append_seam, set-append_seam, take-suc, take-set-le, get_or-set_same, drop-append-add}
+use Rattle.std.proofs.Math.Seq.{length-take-le, take-suc-set, append_snoc, take-set-lt, take-append_seam, drop-append_seam, set-append_seam}
+use Rattle.std.proofs.Math.Seq.{take-suc, take-set-le, get_or-set_same, drop-append-add}
 use Rattle.std.proofs.lemmas.List.{set_split, take-append-le}
 use Rattle.std.proofs.lemmas.Bool.{lt-leb}
 use Rattle.model.specs.Lists.{pick, padded, removed}

@@ -129,7 +129,8 @@ module _ (s : LockState) (c : ClientId) where
   abbrev ps : List Packet
   ps = packets s.wire
 
-  sought : (f : ℕ → Reason) (p : Packet → Bool) → ((i : ℕ) → is_true s c (f i) ≡ is_at p ps i) → first_true s c (map f (indices 0 ps)) ≡ as_reason f (seek p 0 ps)
+  sought : (f : ℕ → Reason) (p : Packet → Bool) → ((i : ℕ) → is_true s c (f i) ≡ is_at p ps i)
+      → first_true s c (map f (indices 0 ps)) ≡ as_reason f (seek p 0 ps)
   sought f p h = first_sought f p 0 ps (λ i j q. let same : j ≡ i = omega (arith, q) in rw same (h i))
 
   queued : (f : ℕ → ℕ → Reason) (xs : List AgentSlot) → ((a i : ℕ) → is_true s c (f i a) ≡ is_at (queued_in c a) xs i)

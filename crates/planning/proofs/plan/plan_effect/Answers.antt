@@ -12,7 +12,8 @@ returns-then-n-m c s l =
 pub returns-else-n-m : goal.returns-else-n-m
 returns-else-n-m c s l =
     let a = c.args in
-    rw (← finish_full a.k a.u a.e (removed (packets s.wire) a.i) s c.if-e.true (omega (arith, l, c.if-n-m.false, c.sent_count-m.ensures.1))) (c.refuse.ensures s)
+    rw (← finish_full a.k a.u a.e (removed (packets s.wire) a.i) s c.if-e.true
+    (omega (arith, l, c.if-n-m.false, c.sent_count-m.ensures.1))) (c.refuse.ensures s)
 
 pub returns-else-e : goal.returns-else-e
 returns-else-e c s l =
