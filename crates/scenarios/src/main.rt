@@ -4,10 +4,10 @@
 
 mod call;
 mod handlings;
-mod reasons;
 mod script;
 mod show;
 mod transcripts;
+mod why;
 
 use by_hand::print::Output;
 use input::read_full;

@@ -1,6 +1,6 @@
 // The commands of the script, one after the other.
 use crate::transcripts::Records;
-use crate::{call, reasons, show, transcripts};
+use crate::{call, show, transcripts, why};
 use by_hand::line::{Numbers, rest};
 use by_hand::print::Output;
 use by_hand::{agents, line, locks, packets, print};
@@ -116,7 +116,7 @@ fn printed<R: Print>(out: &mut Output<'_, R>, m: Made, kept: Cluster, k: usize, 
         1 => print::text(out, r),
         2 => show::shown(out, m.cluster, kept, r),
         3 | 4 | 5 => call::tried(out, m.cluster, k, r),
-        6 => reasons::asked(out, m.cluster, r),
+        6 => why::asked(out, m.cluster, r),
         _ => {}
     }
 }

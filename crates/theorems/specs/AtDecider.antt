@@ -1,7 +1,8 @@
 -- Every step at the decider can be placed and keeps the invariant.
+use Rattle.std.specs.Prelude.{◌≡◌, ◌&&◌, ◌∷◌, ◌+◌, ◌≤◌, ◌<◌, ◌%◌}
 use Rattle.theorems.specs.Names.{MachineId, ClientId, Mode, Exclusive, Shared, Owner, Unowned, Owned, Agent, Address, ToDecider, ToMachine, Message}
-use Rattle.theorems.specs.Names.{Free, Acquire, Grant, Release, Packet, Status, Idle, Waiting, Holding, LockState, ◌≡◌, refl, sym, Bool, true, false}
-use Rattle.theorems.specs.Names.{◌&&◌, not, List, [], ◌∷◌, ℕ, ◌+◌, ◌≤◌, ◌<◌, ◌%◌, arith, set-get_or, ltb, eqb-true, eqb-false, eq-eqb, ltb-true, all}
+use Rattle.theorems.specs.Names.{Free, Acquire, Grant, Release, Packet, Status, Idle, Waiting, Holding, LockState, refl, sym, Bool, true, false}
+use Rattle.theorems.specs.Names.{not, List, [], ℕ, arith, set-get_or, ltb, eqb-true, eqb-false, eq-eqb, ltb-true, all}
 use Rattle.theorems.specs.Names.{machine_of, no_holders, unowned, waiters, no_agent, packets, Site, site_of, with_decider, changed, lists, grants_first}
 use Rattle.theorems.specs.Names.{shares, current, rejects, passes_on, to_owner, decides_acquire, decides_release, decides_free, decides_grant, decides}
 use Rattle.theorems.specs.Names.{and_left, and_right, both, waiters_of, Decider, ◌∙◌, false≢true, machines, clients, owned_shared, may_share, slot_in}

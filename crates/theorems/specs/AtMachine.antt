@@ -1,7 +1,8 @@
 -- Every step at a machine can be placed and keeps the invariant.
+use Rattle.std.specs.Prelude.{◌≡◌, ◌&&◌, ◌∷◌, ◌+◌, ◌≤◌, ◌<◌}
 use Rattle.theorems.specs.Names.{MachineId, ClientId, Mode, Exclusive, Shared, Owner, Unowned, Owned, Queue, Agent, AgentSlot, Address, ToDecider}
-use Rattle.theorems.specs.Names.{ToMachine, Message, Free, Acquire, Grant, Release, Packet, Holding, LockState, ◌≡◌, refl, Bool, true, false, ◌&&◌, not}
-use Rattle.theorems.specs.Names.{List, [], ◌∷◌, ℕ, ◌+◌, ◌≤◌, ◌<◌, arith, eqb, ltb, ltb-true, is_shared, some_agent, listed, plain, queue_of, waiters}
+use Rattle.theorems.specs.Names.{ToMachine, Message, Free, Acquire, Grant, Release, Packet, Holding, LockState, refl, Bool, true, false, not}
+use Rattle.theorems.specs.Names.{List, [], ℕ, arith, eqb, ltb, ltb-true, is_shared, some_agent, listed, plain, queue_of, waiters}
 use Rattle.theorems.specs.Names.{no_agent, cannot_place, does, Site, site_of, with_slot, with_status, changed, joining, queuing, with_room, may_join, lists}
 use Rattle.theorems.specs.Names.{leaves, next, sends_back, requeued, installs, grant_arrives, rejected_grant_arrives, marked, unmarked, acquire_arrives}
 use Rattle.theorems.specs.Names.{release_arrives, free_arrives, arrives, client_named, and_left, and_right, waiters_of, machines, clients, owned_shared}

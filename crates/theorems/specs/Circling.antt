@@ -1,4 +1,5 @@
 -- How often a packet has circled (request 7 of document 02): after every list of calls the counts on a wire are the numbers of its history, as far as 255.
+use Rattle.std.specs.Prelude.{◌≡◌, ◌&&◌, ◌∷◌, ◌++◌}
 use Rattle.laws.specs.Formed.{parts, packet_at_lem}
 use Rattle.laws.specs.Clusters.{each_lock_formed}
 use Rattle.laws.specs.CallSteps.{step_of, Allowed, may_acquire, may_release, may_deliver, may_lose, may_give_up, perform_elsewhere}
@@ -7,8 +8,8 @@ use Rattle.std.specs.Prelude.{drop}
 use mathlib.Core.List.{append-nil}
 use Rattle.std.proofs.Math.Seq.{drop-append_seam}
 use Rattle.theorems.specs.Names.{LockId, MachineId, ClientId, Mode, Owner, Unowned, Owned, Waiter, Agent, AgentSlot, Address, ToDecider, ToMachine}
-use Rattle.theorems.specs.Names.{Message, Free, Acquire, Grant, Release, Packet, LockState, Cluster, Call, ◌≡◌, refl, sym, ap, ◌∙◌, Bool, true, false}
-use Rattle.theorems.specs.Names.{Verdict, finish, carrying, leaves, ◌&&◌, and-false, false≢true, List, [], ◌∷◌, ◌++◌, map, ℕ, zero, suc, arith, min}
+use Rattle.theorems.specs.Names.{Message, Free, Acquire, Grant, Release, Packet, LockState, Cluster, Call, refl, sym, ap, ◌∙◌, Bool, true, false}
+use Rattle.theorems.specs.Names.{Verdict, finish, carrying, leaves, and-false, false≢true, List, [], map, ℕ, zero, suc, arith, min}
 use Rattle.theorems.specs.Names.{ℕ_discrete, length, get_or, eqb, eqb-true, eqb-false, eq-eqb, ne_eqb, pick, removed, client_of, machine_of, mode_of}
 use Rattle.theorems.specs.Names.{is_shared, waiters, resent, blank_packet, wire_of, packets, packets_of, fresh_lock, lock_in, lock_formed, Idle, Site}
 use Rattle.theorems.specs.Names.{with_status, any_holder, without, lists, may_join, no_room, client_asks, client_acquires, hand_over, stays_if, client_releases}

@@ -1,10 +1,11 @@
 -- Every acquire of a client that is idle and named by no packet, and every release of one that holds, can be placed and keeps the
 -- invariant.
+use Rattle.std.specs.Prelude.{◌≡◌, ◌∷◌, ◌+◌, ◌≤◌, ◌<◌, ◌*◌}
 use Rattle.theorems.specs.Names.{MachineId, ClientId, Mode, Exclusive, Shared, Owner, Agent, ToDecider, Acquire, Release, Packet, Idle, Waiting}
-use Rattle.theorems.specs.Names.{Holding, LockState, ◌≡◌, refl, ap, Bool, true, false, List, [], ◌∷◌, ℕ, ◌+◌, ◌≤◌, ◌<◌, arith, bool_cases, eqb}
+use Rattle.theorems.specs.Names.{Holding, LockState, refl, ap, Bool, true, false, List, [], ℕ, arith, bool_cases, eqb}
 use Rattle.theorems.specs.Names.{eqb-true, eq-eqb, lt-ltb, pick, any, machine_of, some_agent, agent_on, listed, plain, waiters, no_agent, packets, Verdict}
 use Rattle.theorems.specs.Names.{does, Site, site_of, with_slot, with_status, joining, queuing, with_room, may_join, lists, client_asks, client_acquires}
-use Rattle.theorems.specs.Names.{leaves, client_releases, names, or_left, or_right, machines, clients, Status, ◌*◌, ClientState, set-get_or, owned_shared}
+use Rattle.theorems.specs.Names.{leaves, client_releases, names, or_left, or_right, machines, clients, Status, ClientState, set-get_or, owned_shared}
 use Rattle.theorems.specs.Names.{client_gives_up}
 use Rattle.theorems.specs.Tally.{flag, tally, tally_le}
 use Rattle.theorems.specs.Weights.{status_at, slot_at, weight, one, hit, hit_w, ask_m, queued_s, waiting_p, mark_m, listed_s, listed_p, owed_m, release_m}

@@ -1,7 +1,8 @@
 -- The two counts of a lock's state (the model's Counts) are what the invariant says of agents, incarnations and marks.
+use Rattle.std.specs.Prelude.{◌≡◌, ◌∷◌, ◌≤◌, ◌<◌}
 use Rattle.model.specs.Drain.{drain_calls, drain}
-use Rattle.theorems.specs.Names.{LockId, ClientId, Agent, AgentSlot, Packet, Status, LockState, Cluster, Call, Answer, ◌≡◌, refl, sym, ap, ◌∙◌, Bool}
-use Rattle.theorems.specs.Names.{true, false≢true, List, [], ◌∷◌, ℕ, ◌≤◌, ◌<◌, arith, length, eqb, ltb, eqb-true, eqb-false, eq-eqb, ne_eqb, ltb-true}
+use Rattle.theorems.specs.Names.{LockId, ClientId, Agent, AgentSlot, Packet, Status, LockState, Cluster, Call, Answer, refl, sym, ap, ◌∙◌, Bool}
+use Rattle.theorems.specs.Names.{true, false≢true, List, [], ℕ, arith, length, eqb, ltb, eqb-true, eqb-false, eq-eqb, ne_eqb, ltb-true}
 use Rattle.theorems.specs.Names.{ltb-false, get_or-eq_default, all, removed, count, some_agent, no_agent, lock_in, packets, current, packet_at, number}
 use Rattle.theorems.specs.Names.{is_free, names, after, agents_in, is_marked, marks_in, uncounted, bool_cases, machines, blank_packet, Accepted, Refused}
 use Rattle.theorems.specs.Names.{is_accepted, both, and_left, and_right, answers_of, fresh}

@@ -1,4 +1,5 @@
 -- Every step of a drain is accepted and lowers the number of steps left, so a drain ends, with its lock fresh and the others as they were.
+use Rattle.std.specs.Prelude.{◌≡◌, ◌&&◌, ◌∷◌, ◌+◌, ◌≤◌, ◌<◌, ◌-◌}
 use Rattle.model.specs.Drain.{allowance, Next, none, some, next_call, Quiescent, Drainage, ending, after_one, drainage, drain_calls, drain_ended, drain_unless}
 use Rattle.model.specs.Drain.{drain}
 use Rattle.model.specs.Refusals.{first}
@@ -6,12 +7,12 @@ use Rattle.laws.specs.CallSteps.{step_of, perform_elsewhere, perform_here}
 use Rattle.laws.specs.Next.{NextIs, delivers_first, releases_holder, gives_up, next_is, rests, Goes, goes}
 use Rattle.laws.specs.Formed.{lock_formed_lem}
 use Rattle.theorems.specs.Names.{LockId, MachineId, TaskId, ClientId, Mode, Address, ToDecider, ToMachine, Message, Free, Acquire, Grant, Release}
-use Rattle.theorems.specs.Names.{Packet, Status, Idle, Waiting, Holding, LockState, Cluster, Call, ReleaseCall, DeliverCall, Accepted, Outcome, ◌≡◌}
-use Rattle.theorems.specs.Names.{refl, sym, ap, ◌∙◌, Bool, true, false, ◌&&◌, not, false≢true, List, [], ◌∷◌, ℕ, zero, suc, ◌+◌, ◌≤◌, ◌<◌, arith}
+use Rattle.theorems.specs.Names.{Packet, Status, Idle, Waiting, Holding, LockState, Cluster, Call, ReleaseCall, DeliverCall, Accepted, Outcome}
+use Rattle.theorems.specs.Names.{refl, sym, ap, ◌∙◌, Bool, true, false, not, false≢true, List, [], ℕ, zero, suc, arith}
 use Rattle.theorems.specs.Names.{length, eqb, eqb-true, eq-eqb, lt-leb, pick, all, removed, client_of, status_of, lock_in, packets, fresh_lock, well_formed}
 use Rattle.theorems.specs.Names.{is_holding, packet_at, after, answers_of, deliver_step, settled, perform, lock_of, run, View, is_accepted, to_machine, None}
 use Rattle.theorems.specs.Names.{handlings_of, last_told, is_grant_for, shows_grant, after_grant, after_release, sees, watch, and_left, locks, fresh, in_parts}
-use Rattle.theorems.specs.Names.{ClientState, GiveUpCall, Shared, note_of, viewed, after_give_up, ◌-◌}
+use Rattle.theorems.specs.Names.{ClientState, GiveUpCall, Shared, note_of, viewed, after_give_up}
 use Rattle.theorems.specs.Weights.{waits_f, hold_f, few, client_in, wait_f}
 use Rattle.theorems.specs.Invariant.{Inv}
 use Rattle.theorems.specs.InvariantStep.{Split, split_at}

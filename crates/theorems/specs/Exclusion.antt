@@ -1,7 +1,8 @@
 -- At most one client holds an exclusive lock.
+use Rattle.std.specs.Prelude.{◌≡◌, ◌∷◌, ◌+◌, ◌≤◌}
 use Rattle.theorems.specs.Names.{MachineId, Mode, Exclusive, Shared, Owner, Unowned, Owned, Agent, Address, ToDecider, ToMachine, Message, Free}
-use Rattle.theorems.specs.Names.{Acquire, Grant, Release, Packet, Holding, LockState, ◌≡◌, refl, ap, Bool, true, false, not, List, [], ◌∷◌, ℕ, zero}
-use Rattle.theorems.specs.Names.{suc, ◌+◌, ◌≤◌, arith, get_or, eqb, ltb, leb-true, no_agent, packets, and_left, and_right, clients, machine_of}
+use Rattle.theorems.specs.Names.{Acquire, Grant, Release, Packet, Holding, LockState, refl, ap, Bool, true, false, not, List, [], ℕ, zero}
+use Rattle.theorems.specs.Names.{suc, arith, get_or, eqb, ltb, leb-true, no_agent, packets, and_left, and_right, clients, machine_of}
 use Rattle.theorems.specs.Tally.{flag, gate, tally, tally_any, tally_le_at, tally_none, tally_add}
 use Rattle.theorems.specs.Weights.{status_at, slot_at, weight, same_mode, mark_m, listed_s, listed_p, agent_s, heads, hold_f, idle_f, clash, owned_mode}
 use Rattle.theorems.specs.Weights.{owned_at}

@@ -1,7 +1,8 @@
 -- What the invariant gives: of packets, of agents, of counts.
+use Rattle.std.specs.Prelude.{◌≡◌, ◌&&◌, ◌∷◌, ◌+◌, ◌*◌, ◌≤◌, ◌<◌}
 use Rattle.theorems.specs.Names.{MachineId, ClientId, Mode, Exclusive, Shared, Owner, Unowned, Owned, Waiter, Agent, AgentSlot, Address, Message, Free}
-use Rattle.theorems.specs.Names.{Acquire, Grant, Release, Packet, Status, Idle, Waiting, Holding, LockState, ◌≡◌, refl, sym, ap, ◌∙◌, Bool, true, false}
-use Rattle.theorems.specs.Names.{◌&&◌, not, and-false, false≢true, List, [], ◌∷◌, ℕ, ◌+◌, ◌*◌, ◌≤◌, ◌<◌, arith, ℕ_discrete, length, get_or, set}
+use Rattle.theorems.specs.Names.{Acquire, Grant, Release, Packet, Status, Idle, Waiting, Holding, LockState, refl, sym, ap, ◌∙◌, Bool, true, false}
+use Rattle.theorems.specs.Names.{not, and-false, false≢true, List, [], ℕ, arith, ℕ_discrete, length, get_or, set}
 use Rattle.theorems.specs.Names.{length-set, get_or-eq_default, get_or-set_same, get_or-set_other, eqb, ltb, eqb-true, eq-eqb, ne_eqb, ltb-true}
 use Rattle.theorems.specs.Names.{ltb-false, lt-ltb, leb-true, le-leb, some_agent, idle, no_agent, packets, changed, and_left, and_right, bool_cases}
 use Rattle.theorems.specs.Names.{machines, clients, wire_capacity, machine_of, owned_shared, true≢false, is_shared, is_free, message_names, ClientState}

@@ -1,11 +1,12 @@
 -- First come, first served: who leaves a queue when its agent is installed (request 3 of document 02), on any cluster.
+use Rattle.std.specs.Prelude.{◌≡◌, ◌&&◌, ◌∷◌, ◌++◌, ◌+◌, ◌<◌}
 use Rattle.model.specs.AtMachine.{may_leave}
 use Rattle.laws.specs.Tests.{pick_by}
 use Rattle.laws.specs.Formed.{parts, packet_at_lem, lock_formed_lem}
 use Rattle.laws.specs.CallSteps.{Allowed, may_deliver, perform_here, not_accepted, Passes, passes}
 use Rattle.theorems.specs.Names.{granted_in, status_of, LockId, MachineId, ClientId, Mode, Exclusive, Shared, Waiter, Agent, ToMachine, Grant, Packet}
-use Rattle.theorems.specs.Names.{LockState, Cluster, DeliverCall, Accepted, Stepped, ◌≡◌, refl, ap, Bool, true, false, ◌&&◌, not, true≢false, List, []}
-use Rattle.theorems.specs.Names.{◌∷◌, ◌++◌, map, ℕ, ◌+◌, ◌<◌, arith, length, get_or-set_same, leb, ltb-true, all, removed, is_shared, waiters, some_agent}
+use Rattle.theorems.specs.Names.{LockState, Cluster, DeliverCall, Accepted, Stepped, refl, ap, Bool, true, false, not, true≢false, List, []}
+use Rattle.theorems.specs.Names.{map, ℕ, arith, length, get_or-set_same, leb, ltb-true, all, removed, is_shared, waiters, some_agent}
 use Rattle.theorems.specs.Names.{no_agent, agent_on, carrying, packets, lock_in, site_of, with_slot, with_status, apply, finish, grant_of, admitted, staying}
 use Rattle.theorems.specs.Names.{installed, installs, grant_arrives, arrives, at_machine, packet_at, delivers, takes, deliver_step, deliver, perform}
 use Rattle.theorems.specs.Names.{and_right, both, bool_cases, waiters_of, packets_of, none_leaves, machines, wire_capacity}

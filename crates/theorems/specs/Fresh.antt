@@ -1,5 +1,6 @@
 -- The fresh lock satisfies the invariant.
-use Rattle.theorems.specs.Names.{Idle, false, ◌≡◌, refl, [], ℕ, zero, suc, arith, get_or, replicate, idle, no_agent, fresh_lock, packets_of, machines}
+use Rattle.std.specs.Prelude.{◌≡◌}
+use Rattle.theorems.specs.Names.{Idle, false, refl, [], ℕ, zero, suc, arith, get_or, replicate, idle, no_agent, fresh_lock, packets_of, machines}
 use Rattle.theorems.specs.Names.{clients}
 use Rattle.theorems.specs.Tally.{tally}
 use Rattle.theorems.specs.Weights.{status_at, slot_at, weight, queued_s, listed_s, agent_s, incarnation_s, vacant_s, wait_f, hold_f, idle_f, owned_f, clash}

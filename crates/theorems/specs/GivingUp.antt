@@ -1,5 +1,6 @@
 -- Lost grants and giving up: what each of the two calls changes, and what becomes of what a client that gave up has left (request 8 of document 02), on any
 -- cluster.
+use Rattle.std.specs.Prelude.{◌≡◌, ◌&&◌, ◌||◌, ◌∷◌, ◌++◌, ◌+◌, ◌≤◌, ◌<◌}
 use Rattle.model.specs.Refusals.{first}
 use Rattle.laws.specs.Tests.{pick_by}
 use Rattle.laws.specs.Lists.{length_removed}
@@ -8,8 +9,8 @@ use Rattle.laws.specs.CallSteps.{Allowed, may_lose, may_give_up, may_deliver, pe
 use Rattle.std.proofs.Common.{append-nil}
 use Rattle.theorems.specs.Names.{LockId, MachineId, TaskId, ClientId, Mode, Agent, Address, ToDecider, ToMachine, Message, Free, Acquire, Grant, Release}
 use Rattle.theorems.specs.Names.{Packet, Idle, Waiting, Unowned, ClientState, Site, LockState, Cluster, LoseCall, GiveUpCall, DeliverCall}
-use Rattle.theorems.specs.Names.{Accepted, Stepped, ◌≡◌, refl, sym, ap, ◌∙◌, Bool, true, false, ◌&&◌, ◌||◌, not, false≢true, List, [], ◌∷◌, ◌++◌, map, ℕ}
-use Rattle.theorems.specs.Names.{◌+◌, ◌≤◌, ◌<◌, arith, length, get_or, set, set-get_or, leb, le-leb, lt-leb, removed, locks, machines, tasks, wire_capacity}
+use Rattle.theorems.specs.Names.{Accepted, Stepped, refl, sym, ap, ◌∙◌, Bool, true, false, not, false≢true, List, [], map, ℕ}
+use Rattle.theorems.specs.Names.{arith, length, get_or, set, set-get_or, leb, le-leb, lt-leb, removed, locks, machines, tasks, wire_capacity}
 use Rattle.theorems.specs.Names.{client_of, agent_on, no_agent, idle, status_of, is_waiting, plain, resent, waiters, packets, lock_in, client_formed}
 use Rattle.theorems.specs.Names.{well_formed}
 use Rattle.theorems.specs.Names.{site_of, cannot_place, does, apply, finish, grant_of, admitted, installed, installs, grant_arrives, arrives, at_machine}

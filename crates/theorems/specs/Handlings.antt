@@ -1,4 +1,5 @@
 -- Why a request came back: what a delivery to a machine tells, and what a drain and a transcript tell last (request 4 of document 02), on any cluster.
+use Rattle.std.specs.Prelude.{◌≡◌, ◌∷◌, ◌++◌, ◌+◌, ◌&&◌, ◌<◌, ◌||◌}
 use Rattle.model.specs.Drain.{allowance, drainage, drain_calls, drain_refused, drain_ended, drain_unless, drain}
 use Rattle.model.specs.Refusals.{◌when◌, first}
 use Rattle.laws.specs.Lists.{all_append}
@@ -6,14 +7,14 @@ use Rattle.laws.specs.Tests.{pick_by}
 use Rattle.laws.specs.CallSteps.{finish_tells, told_none, perform_here, not_accepted, passes}
 use Rattle.theorems.specs.Names.{LockId, MachineId, ClientId, Mode, Agent, ToDecider, ToMachine, Message, Free, Acquire, Grant, Release, Packet, Site}
 use Rattle.theorems.specs.Names.{LockState, Cluster, Call, AcquireCall, ReleaseCall, DeliverCall, Refusal, Answer, Accepted, Refused, Handling, None}
-use Rattle.theorems.specs.Names.{NoAgent, NotHolder, Taken, Stepped, Outcome, ◌≡◌, refl, sym, ap, Bool, true, false, not, List, [], ◌∷◌, ◌++◌, ℕ, ◌+◌}
+use Rattle.theorems.specs.Names.{NoAgent, NotHolder, Taken, Stepped, Outcome, refl, sym, ap, Bool, true, false, not, List, [], ℕ}
 use Rattle.theorems.specs.Names.{length, leb, set-get_or, pick, all, removed, wire_capacity, agent_on, no_agent, idle, packets, packets_of, lock_in, site_of}
 use Rattle.theorems.specs.Names.{Verdict, cannot_place, does, finish, sends_back, leaves, hand_over, stays_if, marked, unmarked, acquire_arrives}
 use Rattle.theorems.specs.Names.{release_arrives, arrives, at_machine, handles, packet_at, lists, delivers, handled_at, acquire_step, release_step, takes}
 use Rattle.theorems.specs.Names.{deliver_step, settled, unless, acquire, release, deliver, perform, handlings_of, latest, last_told, machine_at}
-use Rattle.theorems.specs.Names.{client_named, may_join, no_room, any_holder, without, waiters, Waiter, is_shared, ◌&&◌, false≢true, Drained, well_formed}
+use Rattle.theorems.specs.Names.{client_named, may_join, no_room, any_holder, without, waiters, Waiter, is_shared, false≢true, Drained, well_formed}
 use Rattle.theorems.specs.Names.{locks, Malformed, LockRange, LoseCall, GiveUpCall, lose, give_up, give_up_step, lose_step, drops, queues, unqueuing}
-use Rattle.theorems.specs.Names.{with_slot, some_agent, ◌<◌, ltb, ltb-true, ltb-false, get_or-eq_default, get_or-set_same, waiters_of, bool_cases, ◌||◌}
+use Rattle.theorems.specs.Names.{with_slot, some_agent, ltb, ltb-true, ltb-false, get_or-eq_default, get_or-set_same, waiters_of, bool_cases}
 use Rattle.model.specs.Changes.{told_by}
 use Rattle.std.proofs.Common.{append-nil, append_assoc}
 use Rattle.std.proofs.Math.Seq.{append_snoc}

@@ -1,6 +1,7 @@
 -- A GRANT with its agent comes to its client's machine: the agent is installed, and whoever is admitted from its queue joins.
+use Rattle.std.specs.Prelude.{◌≡◌, ◌∷◌, ◌+◌, ◌*◌, ◌≤◌, ◌<◌}
 use Rattle.theorems.specs.Names.{MachineId, ClientId, Mode, Shared, Owner, Waiter, Agent, AgentSlot, Address, ToMachine, Grant, Packet, Status, Waiting}
-use Rattle.theorems.specs.Names.{Holding, LockState, ◌≡◌, refl, ◌∙◌, Bool, true, false, List, [], ◌∷◌, map, ℕ, ◌+◌, ◌*◌, ◌≤◌, ◌<◌, arith, length, get_or}
+use Rattle.theorems.specs.Names.{Holding, LockState, refl, ◌∙◌, Bool, true, false, List, [], map, ℕ, arith, length, get_or}
 use Rattle.theorems.specs.Names.{set, length-set, get_or-eq_default, eqb, ltb, eq-eqb, ne_eqb, ltb-true, ltb-false, waiters, no_agent, site_of}
 use Rattle.theorems.specs.Names.{grant_of, admitted, staying, joined, installs, and_left, and_right, waiters_of, not, machines, clients, machine_of}
 use Rattle.theorems.specs.Names.{in_parts, length_joined, Idle, Exclusive, owned_shared, with_slot, with_status, some_agent, installed, granted_in}

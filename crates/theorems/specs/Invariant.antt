@@ -1,5 +1,6 @@
 -- The invariant of one lock's state.
-use Rattle.theorems.specs.Names.{◌≡◌, ℕ, ◌+◌, ◌≤◌, ◌%◌, length, Mode, Exclusive, Shared, LockState, packets, machines, clients}
+use Rattle.std.specs.Prelude.{◌≡◌, ◌+◌, ◌≤◌, ◌%◌}
+use Rattle.theorems.specs.Names.{ℕ, length, Mode, Exclusive, Shared, LockState, packets, machines, clients}
 use Rattle.theorems.specs.Tally.{flag, tally}
 use Rattle.theorems.specs.Weights.{status_at, slot_at, weight, waiting_p, queued_s, listed_p, listed_s, owed_p, release_p, agent_p, agent_s, incarnation_p}
 use Rattle.theorems.specs.Weights.{incarnation_s, mark_p, rejected_p, vacant_s, wait_f, hold_f, idle_f, owned_f, note_at, note_f, shared_f, clash, far_f, far_p}

@@ -1,8 +1,9 @@
 -- How any weight changes under a step, and what a step has to show so that the invariant is kept. A step is about machine k, whose slot was old,
 -- and client c; v is the site after it; the packets gone leave the wire, qs are sent, rest stays.
+use Rattle.std.specs.Prelude.{◌*◌, ◌≡◌, ◌∷◌, ◌++◌, ◌+◌, ◌-◌, ◌≤◌, ◌<◌, ◌%◌}
 use Rattle.theorems.specs.Names.{Exclusive, Shared, Message, Acquire, Grant, Release, Free, Idle, Waiting, Holding, ClientState, Bool, true, false}
-use Rattle.theorems.specs.Names.{owned_shared, bool_cases, clients, ◌*◌, MachineId, ClientId, Mode, AgentSlot, Packet, Status, LockState, ◌≡◌, refl, ap}
-use Rattle.theorems.specs.Names.{◌∙◌, List, [], ◌∷◌, ◌++◌, ℕ, ◌+◌, ◌-◌, ◌≤◌, ◌<◌, ◌%◌, arith, ℕ_discrete, length, get_or, set, length-set, set-get_or}
+use Rattle.theorems.specs.Names.{owned_shared, bool_cases, clients, MachineId, ClientId, Mode, AgentSlot, Packet, Status, LockState, refl, ap}
+use Rattle.theorems.specs.Names.{◌∙◌, List, [], ℕ, arith, ℕ_discrete, length, get_or, set, length-set, set-get_or}
 use Rattle.theorems.specs.Names.{get_or-set_same, get_or-set_other, removed, idle, no_agent, blank_packet, packets, Site, site_of, apply, wire_of, packets_of}
 use Rattle.theorems.specs.Names.{machines, sym, with_slot, Owned, noting}
 use Rattle.theorems.specs.Tally.{flag, tally, tally_le, tally_add, tally_one, tally_append, tally_removed, tally_set, tally_at}

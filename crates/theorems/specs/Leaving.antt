@@ -1,6 +1,7 @@
 -- A holder leaves the agent's list, by its own release or by a RELEASE that is delivered; from an empty list the agent leaves too.
-use Rattle.theorems.specs.Names.{MachineId, ClientId, Mode, Waiter, Agent, AgentSlot, Free, Grant, Packet, LockState, ◌≡◌, refl, ◌∙◌, Bool, true, false}
-use Rattle.theorems.specs.Names.{true≢false, false≢true, List, [], ◌∷◌, ℕ, ◌+◌, ◌≤◌, ◌<◌, arith, length, get_or, length-set, ne_eqb, lt-ltb, any}
+use Rattle.std.specs.Prelude.{◌≡◌, ◌∷◌, ◌+◌, ◌≤◌, ◌<◌}
+use Rattle.theorems.specs.Names.{MachineId, ClientId, Mode, Waiter, Agent, AgentSlot, Free, Grant, Packet, LockState, refl, ◌∙◌, Bool, true, false}
+use Rattle.theorems.specs.Names.{true≢false, false≢true, List, [], ℕ, arith, length, get_or, length-set, ne_eqb, lt-ltb, any}
 use Rattle.theorems.specs.Names.{some_agent, listed, queue_of, waiters, no_agent, Site, with_slot, changed, any_holder, without, departing, lists, hand_over}
 use Rattle.theorems.specs.Names.{stays_if, leaves, waiters_of, machines, clients, site_of, with_status, with_note, ClientState, owned_shared}
 use Rattle.theorems.specs.Weights.{note_at, status_at, slot_at, one, hit, ask_m, queued_s, waiting_p, mark_m, listed_s, listed_p, owed_m, owed_p, release_m}

@@ -1,4 +1,5 @@
 -- The run of a transcript and its listing, by the transcript's calls.
+use Rattle.std.specs.Prelude.{◌≡◌, ◌∷◌, ◌++◌, ◌+◌, ◌-◌, ◌*◌, ◌≤◌}
 use Rattle.model.specs.declared.Reading.{Reading}
 use Rattle.model.specs.declared.Reading.TheVariants.{Record, Bad, End}
 use Rattle.std.specs.Prelude.{◌/◌}
@@ -6,8 +7,8 @@ use Rattle.model.specs.Refusals.{◌when◌, first}
 use Rattle.model.specs.Transcripts.{read_record, replay_from, replay_unless, replay_tests, replay, calls_from}
 use Rattle.model.specs.Listing.{Row, row_of, digit, digit_of, decimal, header, wire_column, line_of, refused_line, lines_from, lines_unless, listing}
 use Rattle.laws.specs.Records.{record_ends, record_kind, end_at, at_record, at_bad, at_end}
-use Rattle.theorems.specs.Names.{Cluster, Call, Refusal, Answer, Accepted, Refused, ◌≡◌, refl, sym, ap, ◌∙◌, List, [], ◌∷◌, ◌++◌, map, ℕ, zero, suc, ◌+◌}
-use Rattle.theorems.specs.Names.{◌-◌, ◌*◌, ◌≤◌, arith, Bool, true, false, not, pick, eqb, ltb, ltb-false, length, length-append, perform, run}
+use Rattle.theorems.specs.Names.{Cluster, Call, Refusal, Answer, Accepted, Refused, refl, sym, ap, ◌∙◌, List, [], map, ℕ, zero, suc}
+use Rattle.theorems.specs.Names.{arith, Bool, true, false, not, pick, eqb, ltb, ltb-false, length, length-append, perform, run}
 use Rattle.theorems.specs.Names.{answers_of, number, refusal_number, well_formed, Malformed, TranscriptLength, BadRecord, Handling, None, handlings_of}
 use Rattle.theorems.specs.Names.{latest, last_told}
 use Rattle.theorems.specs.Statements.{rows_of, lines_of, last_line, last_records, Listed, longest_listing, ListsAll}

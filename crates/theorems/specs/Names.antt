@@ -20,8 +20,7 @@ pub use Rattle.model.specs.declared.{Found.Found, Found.TheVariants.{Nowhere, At
 pub use Rattle.model.specs.declared.{Handling.Handling, Handling.TheVariants.{None, NoAgent, NotHolder, Taken}}
 pub use Rattle.model.specs.declared.{Stepped.Stepped, Outcome.Outcome, Drained.Drained}
 -- ---- the library
-pub use Rattle.std.specs.Prelude.{◌≡◌, refl, Bool, true, false, ◌&&◌, ◌||◌, not, List, [], ◌∷◌, ◌++◌, map, ℕ, zero, suc, ◌+◌, ◌-◌, ◌*◌, ◌≤◌, ◌<◌, ◌%◌, min}
-pub use Rattle.std.specs.Prelude.{max, length, get_or, set, replicate, eqb, leb, ltb}
+pub use Rattle.std.specs.Prelude.{refl, Bool, true, false, not, List, [], map, ℕ, zero, suc, min, max, length, get_or, set, replicate, eqb, leb, ltb}
 pub use Rattle.std.proofs.Common.{sym, ap, ◌∙◌, true≢false, arith, length-set, length-append, get_or-set_same, get_or-set_other, eqb-true, eq-eqb, ne_eqb}
 pub use Rattle.std.proofs.Common.{ltb-true, ltb-false, lt-ltb, leb-true, leb-false, le-leb}
 pub use Rattle.std.proofs.Math.Bool.{and-true, and-false}

@@ -1,4 +1,5 @@
 -- The packet for which an acquire is refused with 6 (request 6 of document 02), on any cluster.
+use Rattle.std.specs.Prelude.{◌≡◌, ◌∷◌, ◌+◌}
 use Rattle.model.specs.Refusals.{Cause, ◌when◌, first}
 use Rattle.laws.specs.Tests.{pick_by}
 use Rattle.laws.specs.Lists.{at_any}
@@ -6,7 +7,7 @@ use Rattle.laws.specs.Finding.{first_is}
 use Rattle.laws.specs.CallSteps.{Allowed, may_acquire, settled_answer, passes}
 use Rattle.theorems.specs.Names.{LockId, MachineId, TaskId, ClientId, Packet, LockState, Cluster, AcquireCall, Refusal, Malformed, LockRange}
 use Rattle.theorems.specs.Names.{MachineRange, TaskRange, ModeRange, NotIdle, StillNamed, Answer, Accepted, Refused, Stepped, Found, Nowhere, At}
-use Rattle.theorems.specs.Names.{◌≡◌, refl, sym, ◌∙◌, Bool, true, false, true≢false, List, [], ◌∷◌, ℕ, ◌+◌, arith, length, eqb, eqb-false, leb, any}
+use Rattle.theorems.specs.Names.{refl, sym, ◌∙◌, Bool, true, false, true≢false, List, [], ℕ, arith, length, eqb, eqb-false, leb, any}
 use Rattle.theorems.specs.Names.{IsFirst, wire_capacity, client_of, lock_in, packets, Verdict, cannot_place, does, finish, names, acquire_step, unless}
 use Rattle.theorems.specs.Names.{acquire, perform, refusal_number, number}
 use Rattle.theorems.specs.Theorems.{numbered}

@@ -1,12 +1,13 @@
 -- What a cluster prefers (request 5 of document 02): which preferences are accepted, that a cluster keeps its own, and that with readers preferred no decider
 -- knows of a writer.
+use Rattle.std.specs.Prelude.{◌≡◌, ◌||◌, ◌∷◌, ◌&&◌}
 use Rattle.model.specs.WellFormed.{owner_in_range}
 use Rattle.laws.specs.Formed.{parts}
 use Rattle.laws.specs.Clusters.{each_lock_formed}
 use Rattle.laws.specs.CallSteps.{perform_preference}
-use Rattle.theorems.specs.Names.{LockId, Cluster, Call, ◌≡◌, refl, sym, ◌∙◌, Bool, true, false, ◌||◌, not, false≢true, List, [], ◌∷◌, ℕ, ltb, ltb-true}
+use Rattle.theorems.specs.Names.{LockId, Cluster, Call, refl, sym, ◌∙◌, Bool, true, false, not, false≢true, List, [], ℕ, ltb, ltb-true}
 use Rattle.theorems.specs.Names.{lt-ltb, lock_in, preferences, prefers_writers, well_formed, perform, run, after, fresh, and_right, bool_cases, Site, ap}
-use Rattle.theorems.specs.Names.{◌&&◌, and-true, is_shared, site_of, may_join, owned_shared, may_share}
+use Rattle.theorems.specs.Names.{and-true, is_shared, site_of, may_join, owned_shared, may_share}
 use Rattle.theorems.specs.Runs.{reached}
 use Rattle.theorems.specs.Statements.{Prefers, AsBefore, ReadersAsBefore}
 

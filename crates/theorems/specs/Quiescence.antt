@@ -1,9 +1,10 @@
 -- A lock whose wire is empty, that nobody holds and of which no GRANT was lost is fresh.
+use Rattle.std.specs.Prelude.{◌≡◌, ◌∷◌, ◌+◌}
 use Rattle.laws.specs.Formed.{parts, agent_blank, wire_canonical}
 use Rattle.laws.specs.Shapes.{wire_whole}
 use Rattle.model.specs.WellFormed.{slot_formed}
 use Rattle.theorems.specs.Names.{Mode, Exclusive, Shared, Owner, Unowned, Owned, AgentSlot, Packet, Status, Idle, Waiting, Holding, ClientState}
-use Rattle.theorems.specs.Names.{LockState, ◌≡◌, refl, Bool, true, false, List, [], ◌∷◌, ℕ, suc, ◌+◌, arith, length, get_or, replicate, eq-eqb, all, idle}
+use Rattle.theorems.specs.Names.{LockState, refl, Bool, true, false, List, [], ℕ, suc, arith, length, get_or, replicate, eq-eqb, all, idle}
 use Rattle.theorems.specs.Names.{no_agent, wire_of, packets, fresh_lock, lock_formed, and_left, and_right, bool_cases, machines, clients, ap}
 use Rattle.theorems.specs.Tally.{flag, tally, tally_none}
 use Rattle.theorems.specs.Weights.{status_at, weight, queued_s, waiting_p, listed_s, listed_p, owed_p, agent_s, agent_p, mark_p, rejected_p, heads, vacant_s}

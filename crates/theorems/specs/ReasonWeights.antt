@@ -1,7 +1,8 @@
 -- The reasons that are true of a client (the model's Reasons), counted: as many as the invariant counts of its waiting.
+use Rattle.std.specs.Prelude.{◌≡◌, ◌&&◌, ◌∷◌, ◌++◌, ◌+◌}
 use Rattle.theorems.specs.Names.{ClientId, Mode, Exclusive, Shared, Waiter, AgentSlot, Message, Acquire, Grant, Release, Free, Packet, LockState}
-use Rattle.theorems.specs.Names.{Reason, Requested, Granted, Rejected, Queued, Carried, ◌≡◌, refl, sym, ap, ◌∙◌, Bool, true, false, ◌&&◌, not, List, []}
-use Rattle.theorems.specs.Names.{◌∷◌, ◌++◌, map, ℕ, zero, suc, ◌+◌, arith, eqb, eqb-true, eqb-false, eq-eqb, ne_eqb, is_at, indices, is_client, waiters}
+use Rattle.theorems.specs.Names.{Reason, Requested, Granted, Rejected, Queued, Carried, refl, sym, ap, ◌∙◌, Bool, true, false, not, List, []}
+use Rattle.theorems.specs.Names.{map, ℕ, zero, suc, arith, eqb, eqb-true, eqb-false, eq-eqb, ne_eqb, is_at, indices, is_client, waiters}
 use Rattle.theorems.specs.Names.{packets, bool_cases, is_request_of, requests, grants, grant_rejected, queued_in, is_true, in_queues, reasons_in, is_grant_for}
 use Rattle.theorems.specs.Names.{GrantLost, note_of}
 use Rattle.laws.specs.Lists.{at_map}

@@ -1,10 +1,11 @@
 -- Why a client waits (the model's Reasons). Where it waits, one reason is true of it; and the search tries all that can be true, so it comes to that one.
+use Rattle.std.specs.Prelude.{◌≡◌, ◌∷◌, ◌++◌, ◌+◌, ◌≤◌, ◌<◌}
 use Rattle.std.specs.Prelude.{◌⊎◌}
 use Rattle.std.proofs.Math.Logic.{inl, inr}
 use Rattle.theorems.specs.Names.{LockId, MachineId, TaskId, ClientId, Mode, Exclusive, Shared, AgentSlot, Status, Idle, Waiting, Holding, LockState}
 use Rattle.theorems.specs.Names.{Call, Refusal, Answer, Accepted, Refused, NotWaiting, Reason, Requested, Granted, Rejected, Queued, Carried, GrantLost}
-use Rattle.theorems.specs.Names.{ReasonAnswer, Because, NoReason, ◌≡◌, refl, sym, ap, ◌∙◌, Bool, true, false, false≢true, List, [], ◌∷◌, ◌++◌, map, ℕ}
-use Rattle.theorems.specs.Names.{zero, suc, ◌+◌, ◌≤◌, ◌<◌, arith, lt-leb, get_or, is_at, indices, is_client, waiters, status_of, lock_in, after, phase_after}
+use Rattle.theorems.specs.Names.{ReasonAnswer, Because, NoReason, refl, sym, ap, ◌∙◌, Bool, true, false, false≢true, List, [], map, ℕ}
+use Rattle.theorems.specs.Names.{zero, suc, arith, lt-leb, get_or, is_at, indices, is_client, waiters, status_of, lock_in, after, phase_after}
 use Rattle.theorems.specs.Names.{client_of, locks, machines, tasks, bool_cases, and_right, requests, grants, grant_rejected, queued_in, is_true, in_queues}
 use Rattle.theorems.specs.Names.{reasons_in, first_true, is_waiting, reason_in, reason_unless, reason, reason_number, reason_values, refusal_number}
 use Rattle.theorems.specs.Names.{is_accepted}

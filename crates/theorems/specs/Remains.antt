@@ -1,7 +1,8 @@
 -- What is left of an idle client that no packet names: nothing. What it asked for, its places in queues and lists and what it owes add up, so that without
 -- a packet of it there is none (fact 'presence' of the invariant).
-use Rattle.theorems.specs.Names.{MachineId, ClientId, Exclusive, Shared, Waiter, AgentSlot, Packet, Idle, LockState, Call, ◌≡◌, refl, ◌∙◌, Bool, true}
-use Rattle.theorems.specs.Names.{false, ◌&&◌, List, ℕ, ◌+◌, ◌<◌, arith, get_or, any, clients, agent_on, no_agent, blank_packet, waiters, packets, lock_in}
+use Rattle.std.specs.Prelude.{◌≡◌, ◌&&◌, ◌+◌, ◌<◌}
+use Rattle.theorems.specs.Names.{MachineId, ClientId, Exclusive, Shared, Waiter, AgentSlot, Packet, Idle, LockState, Call, refl, ◌∙◌, Bool, true}
+use Rattle.theorems.specs.Names.{false, List, ℕ, arith, get_or, any, clients, agent_on, no_agent, blank_packet, waiters, packets, lock_in}
 use Rattle.theorems.specs.Names.{after, lists, queues, names, packet_at, is_client}
 use Rattle.theorems.specs.Tally.{flag, gate, tally, tally_any}
 use Rattle.theorems.specs.Weights.{weight, hit_w, queued_s, waiting_p, listed_s, listed_p, mark_m, ask_m, status_at}

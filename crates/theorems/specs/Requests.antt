@@ -1,6 +1,7 @@
 -- How the requests of a lock's clients come nearer as the first packet p leaves the wire and qs are sent: sums along the wire, then client by client.
-use Rattle.theorems.specs.Names.{ClientId, Mode, Shared, Owner, Address, ToDecider, ToMachine, Message, Acquire, Grant, Release, Packet, LockState, ◌≡◌}
-use Rattle.theorems.specs.Names.{refl, ap, ◌∙◌, Bool, true, false, false≢true, List, [], ◌∷◌, ◌++◌, ℕ, zero, suc, ◌+◌, ◌-◌, ◌*◌, ◌≤◌, ◌<◌, min, max}
+use Rattle.std.specs.Prelude.{◌≡◌, ◌∷◌, ◌++◌, ◌+◌, ◌-◌, ◌*◌, ◌≤◌, ◌<◌}
+use Rattle.theorems.specs.Names.{ClientId, Mode, Shared, Owner, Address, ToDecider, ToMachine, Message, Acquire, Grant, Release, Packet, LockState}
+use Rattle.theorems.specs.Names.{refl, ap, ◌∙◌, Bool, true, false, false≢true, List, [], ℕ, zero, suc, min, max}
 use Rattle.theorems.specs.Names.{arith, eqb, eqb-true, eqb-false, lt-ltb, pick, plain, no_agent, packets, bool_cases, clients}
 use Rattle.theorems.specs.Tally.{flag, gate, tally, tally_append, sum_to, sum_ext, sum_add, sum_shift, sum_twice}
 use Rattle.theorems.specs.Weights.{one, agent_s, agent_p, owned_at}

@@ -1,11 +1,12 @@
 -- Calls and lists of calls: each keeps the invariant of every lock, and no call is refused with 9 to 16.
+use Rattle.std.specs.Prelude.{◌≡◌, ◌∷◌, ◌≤◌, ◌||◌, ◌&&◌}
 use Rattle.laws.specs.Tests.{pick_by}
 use Rattle.laws.specs.CallSteps.{step_of, step_in, Allowed, may_acquire, may_release, may_deliver, may_lose, may_give_up, is_early, CallCases, denied, passed}
 use Rattle.laws.specs.CallSteps.{call_cases, perform_here}
 use Rattle.laws.specs.Clusters.{fresh_formed, perform_formed, perform_keeps}
-use Rattle.theorems.specs.Names.{LockId, LockState, Cluster, Call, Refusal, Accepted, Outcome, ◌≡◌, refl, ap, ◌∙◌, true, List, [], ◌∷◌, ℕ, zero, suc}
-use Rattle.theorems.specs.Names.{◌≤◌, arith, get_or, ltb, replicate, client_of, mode_of, lock_in, fresh_lock, fresh_with, fresh, preferences, lock_formed}
-use Rattle.theorems.specs.Names.{well_formed, refusing, after, settled, Bool, false, ◌||◌, ◌&&◌, eqb, leb, and_right, bool_cases, perform, lock_of, run}
+use Rattle.theorems.specs.Names.{LockId, LockState, Cluster, Call, Refusal, Accepted, Outcome, refl, ap, ◌∙◌, true, List, [], ℕ, zero, suc}
+use Rattle.theorems.specs.Names.{arith, get_or, ltb, replicate, client_of, mode_of, lock_in, fresh_lock, fresh_with, fresh, preferences, lock_formed}
+use Rattle.theorems.specs.Names.{well_formed, refusing, after, settled, Bool, false, eqb, leb, and_right, bool_cases, perform, lock_of, run}
 use Rattle.theorems.specs.Names.{refusal_number, number, locks}
 use Rattle.theorems.specs.Invariant.{Inv}
 use Rattle.theorems.specs.Fresh.{inv_fresh}

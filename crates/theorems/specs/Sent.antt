@@ -1,7 +1,8 @@
 -- What a step must come to, packets sent on, packets that never are on the wire, and what a yes of the rules' two tests says.
-use Rattle.theorems.specs.Names.{◌≡◌, refl, MachineId, ClientId, Mode, Exclusive, Shared, Owner, Unowned, Agent, Address, ToDecider, ToMachine, Message}
+use Rattle.std.specs.Prelude.{◌≡◌, ◌∷◌, ◌<◌}
+use Rattle.theorems.specs.Names.{refl, MachineId, ClientId, Mode, Exclusive, Shared, Owner, Unowned, Agent, Address, ToDecider, ToMachine, Message}
 use Rattle.theorems.specs.Names.{Free, Acquire, Grant, Packet, Site, LockState, Bool, true, false, and-false, false≢true, List, arith, pick, machines}
-use Rattle.theorems.specs.Names.{is_shared, Verdict, cannot_place, does, may_join, owned_shared, may_share, and_left, and_right, [], ◌∷◌, ◌<◌}
+use Rattle.theorems.specs.Names.{is_shared, Verdict, cannot_place, does, may_join, owned_shared, may_share, and_left, and_right, []}
 use Rattle.laws.specs.Tests.{pick_by}
 use Rattle.theorems.specs.Weights.{far_p, fits, fits_p, misfit_p}
 use Rattle.theorems.specs.Invariant.{Inv}

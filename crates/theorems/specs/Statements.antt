@@ -1,18 +1,19 @@
 -- What is proved, in Theorems, Drains, Listings, Counts, Reasons, FirstCome, Handlings, Preferences, WritersFirst, Naming, Circling, GivingUp and Remains:
 -- of the numbers of answers, and of every list of calls on a fresh cluster, made with any preference n, as given: one above 1 is refused, and the cluster
 -- beside that prefers readers. Past the last, a lock reads as fresh and a client as idle.
+use Rattle.std.specs.Prelude.{◌≡◌, ◌∷◌, ◌≤◌, ◌<◌, ◌+◌, ◌-◌, ◌*◌, ◌++◌, ◌||◌, ◌&&◌}
 use Rattle.model.specs.Drain.{allowance, Quiescent, drain_calls, drain}
 use Rattle.model.specs.Trace.{is_accepted, grants_in, given_up_in}
 use Rattle.model.specs.Refusals.{first}
 use Rattle.model.specs.declared.Reading.TheVariants.{Record}
 use Rattle.model.specs.Transcripts.{short, read_record, replay_tests, replayed, replay, calls_of}
 use Rattle.model.specs.Listing.{Row, kind_of, row_of, header, line_of, refused_line, listing}
-use Rattle.theorems.specs.Names.{LockId, ClientId, Mode, Exclusive, Status, Waiting, Holding, Cluster, Call, Refusal, Answer, Accepted, Refused, ◌≡◌}
-use Rattle.theorems.specs.Names.{true, List, [], ◌∷◌, ℕ, ◌≤◌, ◌<◌, length, eqb, leb, all, status_of, lock_in, packets, fresh_lock, fresh, well_formed}
-use Rattle.theorems.specs.Names.{current, packet_at, run, answers_of, perform, lock_of, number, phase_after, ◌+◌, ◌-◌, ◌*◌, locks, clients, wire_capacity}
-use Rattle.theorems.specs.Names.{after, ◌++◌, map, Packet, MachineId, Unowned, Owned, LockState, Bool, false, not, ◌||◌, count, agent_on, owned_shared}
+use Rattle.theorems.specs.Names.{LockId, ClientId, Mode, Exclusive, Status, Waiting, Holding, Cluster, Call, Refusal, Answer, Accepted, Refused}
+use Rattle.theorems.specs.Names.{true, List, [], ℕ, length, eqb, leb, all, status_of, lock_in, packets, fresh_lock, fresh, well_formed}
+use Rattle.theorems.specs.Names.{current, packet_at, run, answers_of, perform, lock_of, number, phase_after, locks, clients, wire_capacity}
+use Rattle.theorems.specs.Names.{after, map, Packet, MachineId, Unowned, Owned, LockState, Bool, false, not, count, agent_on, owned_shared}
 use Rattle.theorems.specs.Names.{names, is_free, agents_in, marks_in, uncounted, TaskId, Reason, ReasonAnswer, Because, machines, tasks, client_of, is_true}
-use Rattle.theorems.specs.Names.{reason_in, reason, reason_number, reason_values, Waiter, Agent, ToMachine, Grant, ◌&&◌, is_shared, waiters, carrying}
+use Rattle.theorems.specs.Names.{reason_in, reason, reason_number, reason_values, Waiter, Agent, ToMachine, Grant, is_shared, waiters, carrying}
 use Rattle.theorems.specs.Names.{removed, grant_of, acquire, release, deliver, preferences, prefers_writers, fresh_with, writer_in, Shared, ToDecider}
 use Rattle.theorems.specs.Names.{Message, Free, Acquire, Release, Handling, None, NoAgent, NotHolder, Taken, sent_back, lists, handlings_of, last_told}
 use Rattle.theorems.specs.Names.{wire_of, Site, site_of, may_share, may_join, noting, grants_first, grants_with, passes_on, new_agent, changed, Found, Nowhere}

@@ -1,6 +1,7 @@
 -- Every step that a call makes is accepted and keeps the invariant: no refusal 9, no refusal 10.
-use Rattle.theorems.specs.Names.{MachineId, ClientId, Mode, Address, ToDecider, ToMachine, Packet, Idle, Holding, LockState, Accepted, Stepped, ◌≡◌}
-use Rattle.theorems.specs.Names.{refl, ap, true, false, List, [], ◌∷◌, ◌++◌, ℕ, ◌+◌, ◌<◌, arith, length, length-append, leb, ltb-true, le-leb, any}
+use Rattle.std.specs.Prelude.{◌≡◌, ◌∷◌, ◌++◌, ◌+◌, ◌<◌}
+use Rattle.theorems.specs.Names.{MachineId, ClientId, Mode, Address, ToDecider, ToMachine, Packet, Idle, Holding, LockState, Accepted, Stepped}
+use Rattle.theorems.specs.Names.{refl, ap, true, false, List, [], ℕ, arith, length, length-append, leb, ltb-true, le-leb, any}
 use Rattle.theorems.specs.Names.{removed, agent_on, status_of, blank_packet, packets, Site, site_of, Verdict, cannot_place, does, apply, finish, at_decider}
 use Rattle.theorems.specs.Names.{at_machine, names, machine_at, client_named, packet_at, delivers, acquire_step, release_step, takes, deliver_step, packets_of}
 use Rattle.theorems.specs.Names.{machines, clients, wire_capacity, Bool, pick, resent, Message, Grant, Acquire, Release, Free, Waiting, give_up_step}

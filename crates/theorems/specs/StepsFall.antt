@@ -1,10 +1,11 @@
 -- Each step of a drain lowers the number of StepsLeft by at least one. A delivery is of one of four kinds: no request is in it, a request goes on, an ACQUIRE
 -- is taken, a RELEASE is taken. Of each it is shown what the packets and the clients' standing cost before and after (Cheaper), and that the requests have
 -- fewer moves (Requests); then every rule is one of them.
-use Rattle.theorems.specs.Names.{MachineId, ClientId, Mode, Owner, Address, Message, Acquire, Release, Packet, Status, LockState, ◌≡◌, refl, ap, Bool}
-use Rattle.theorems.specs.Names.{false, List, [], ◌∷◌, ◌++◌, ℕ, ◌+◌, ◌*◌, ◌≤◌, ◌<◌, arith, eqb, packets, Site, apply, packets_of, clients, Shared}
+use Rattle.std.specs.Prelude.{◌≡◌, ◌∷◌, ◌++◌, ◌+◌, ◌*◌, ◌≤◌, ◌<◌, ◌-◌}
+use Rattle.theorems.specs.Names.{MachineId, ClientId, Mode, Owner, Address, Message, Acquire, Release, Packet, Status, LockState, refl, ap, Bool}
+use Rattle.theorems.specs.Names.{false, List, [], ℕ, arith, eqb, packets, Site, apply, packets_of, clients, Shared}
 use Rattle.theorems.specs.Names.{Unowned, Owned, Waiter, Agent, AgentSlot, ToDecider, ToMachine, Free, Grant, Idle, Waiting, Holding, sym, ◌∙◌, true}
-use Rattle.theorems.specs.Names.{false≢true, map, zero, suc, ◌-◌, max, lt-ltb, eqb-true, eq-eqb, ltb-true, removed, machine_of, some_agent, agent_on}
+use Rattle.theorems.specs.Names.{false≢true, map, zero, suc, max, lt-ltb, eqb-true, eq-eqb, ltb-true, removed, machine_of, some_agent, agent_on}
 use Rattle.theorems.specs.Names.{status_of, plain, waiters, no_agent, site_of, with_slot, with_status, cannot_place, bool_cases, machines, in_parts, resent}
 use Rattle.theorems.specs.Names.{decides_acquire, decides_free, decides_grant, decides, at_decider, to_owner, may_share, current, lists, sent_on, grants_first}
 use Rattle.theorems.specs.Names.{shares, client_releases, release_step, installs, grant_arrives, grant_of, admitted, rejected_grant_arrives, free_arrives}

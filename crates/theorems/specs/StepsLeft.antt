@@ -1,7 +1,8 @@
 -- The most steps that a drain of a lock can still take: a number that falls at each of its steps (StepsFall), is at most 706, and 0 at a fresh lock. Each
 -- client counts for what it still has to do. Requests are ACQUIREs and RELEASEs; what they have to move turns on where the agent is.
+use Rattle.std.specs.Prelude.{◌≡◌, ◌∷◌, ◌+◌, ◌-◌, ◌*◌, ◌≤◌}
 use Rattle.theorems.specs.Names.{Exclusive, Shared, Owner, Unowned, Owned, AgentSlot, Address, ToDecider, ToMachine, Message, Free, Acquire, Grant}
-use Rattle.theorems.specs.Names.{Release, Packet, Status, LockState, ◌≡◌, refl, Bool, true, false, List, [], ◌∷◌, ℕ, zero, suc, ◌+◌, ◌-◌, ◌*◌, ◌≤◌, min}
+use Rattle.theorems.specs.Names.{Release, Packet, Status, LockState, refl, Bool, true, false, List, [], ℕ, zero, suc, min}
 use Rattle.theorems.specs.Names.{max, arith, eqb, pick, packets, bool_cases, clients, fresh_lock, wire_of, no_agent}
 use Rattle.theorems.specs.Tally.{flag, gate, tally, tally_add, tally_none, sum_to, sum_le}
 use Rattle.theorems.specs.Weights.{status_at, weight, one, ask_m, queued_s, mark_m, listed_s, owed_m, owed_p, release_m, release_p, agent_s, agent_p, waits_f}

@@ -1,5 +1,6 @@
 -- Sums over lists, and sums over the numbers below a bound.
-use Rattle.theorems.specs.Names.{◌≡◌, refl, sym, ◌∙◌, Bool, true, false, List, [], ◌∷◌, ◌++◌, map, ℕ, zero, suc, ◌+◌, ◌*◌, ◌≤◌, ◌<◌, arith, ℕ_discrete}
+use Rattle.std.specs.Prelude.{◌≡◌, ◌∷◌, ◌++◌, ◌+◌, ◌*◌, ◌≤◌, ◌<◌}
+use Rattle.theorems.specs.Names.{refl, sym, ◌∙◌, Bool, true, false, List, [], map, ℕ, zero, suc, arith, ℕ_discrete}
 use Rattle.theorems.specs.Names.{length, get_or, set, eqb, eq-eqb, ne_eqb, removed, count, pick}
 
 abbrev pub flag : Bool → ℕ

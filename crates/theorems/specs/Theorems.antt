@@ -1,6 +1,7 @@
 -- The proofs of the statements: the numbers, then for every list of calls.
+use Rattle.std.specs.Prelude.{◌≡◌, ◌∷◌}
 use Rattle.laws.specs.CallSteps.{perform_elsewhere}
-use Rattle.theorems.specs.Names.{LockState, Cluster, Call, Answer, ◌≡◌, refl, sym, ap, ◌∙◌, true, List, [], ◌∷◌, ℕ, all, lock_in, fresh, answers_of}
+use Rattle.theorems.specs.Names.{LockState, Cluster, Call, Answer, refl, sym, ap, ◌∙◌, true, List, [], ℕ, all, lock_in, fresh, answers_of}
 use Rattle.theorems.specs.Names.{after, perform, number, unseen, both, map, get_or, Accepted, Refused, Malformed, LockRange, MachineRange, TaskRange}
 use Rattle.theorems.specs.Names.{ModeRange, NotIdle, StillNamed, NotHolding, IndexRange, CannotPlace, WireFull, BadRecord, TranscriptLength}
 use Rattle.theorems.specs.Names.{NotQuiescent, NotWaiting, PreferenceRange, CannotGiveUp, CannotLose, ClientState, LockId, ClientId, watch}

@@ -1,9 +1,10 @@
 -- The statuses and the notes are what the trace says: which client's each step writes, and as what.
+use Rattle.std.specs.Prelude.{◌≡◌, ◌&&◌, ◌∷◌, ◌+◌, ◌<◌}
 use Rattle.laws.specs.CallSteps.{step_of, Allowed, may_acquire, may_release, may_deliver, may_lose, may_give_up, perform_elsewhere}
 use Rattle.theorems.specs.Names.{LockId, MachineId, ClientId, Mode, Owner, Unowned, Owned, Agent, AgentSlot, Address, ToDecider, ToMachine, Message}
 use Rattle.theorems.specs.Names.{Free, Acquire, Grant, Release, Packet, Status, Idle, Waiting, Holding, ClientState, LockState, Cluster, Call}
-use Rattle.theorems.specs.Names.{AcquireCall, ReleaseCall, DeliverCall, LoseCall, GiveUpCall, WireFull, ◌≡◌, refl, sym, ap, ◌∙◌, Bool, true, false}
-use Rattle.theorems.specs.Names.{◌&&◌, not, and-false, List, [], ◌∷◌, ℕ, ◌+◌, ◌<◌, arith, ℕ_discrete, length, get_or-set_same, get_or-set_other, leb}
+use Rattle.theorems.specs.Names.{AcquireCall, ReleaseCall, DeliverCall, LoseCall, GiveUpCall, WireFull, refl, sym, ap, ◌∙◌, Bool, true, false}
+use Rattle.theorems.specs.Names.{not, and-false, List, [], ℕ, arith, ℕ_discrete, length, get_or-set_same, get_or-set_other, leb}
 use Rattle.theorems.specs.Names.{eq-eqb, ne_eqb, pick, any, removed, client_of, machine_of, mode_of, is_shared, some_agent, agent_on, listed, idle, status_of}
 use Rattle.theorems.specs.Names.{plain, lock_in, no_agent, packets, Verdict, cannot_place, does, Site, site_of, with_slot, with_status, apply, accepted}
 use Rattle.theorems.specs.Names.{finish, any_holder, without, stays_if, leaves, joining, queuing, no_room, may_join, lists, client_asks, client_acquires}

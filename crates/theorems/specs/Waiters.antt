@@ -1,9 +1,10 @@
 -- The waiters that leave a queue and those that stay, holders that join, and room in a queue.
-use Rattle.theorems.specs.Names.{ClientId, Mode, Exclusive, Shared, Owner, Waiter, ToDecider, Grant, Packet, LockState, ◌≡◌, refl, sym, ◌∙◌, Bool, true}
-use Rattle.theorems.specs.Names.{false, ◌||◌, and-true, false≢true, List, [], ◌∷◌, map, ℕ, ◌+◌, ◌≤◌, ◌<◌, arith, length, get_or, set, length-set, eqb}
+use Rattle.std.specs.Prelude.{◌≡◌, ◌||◌, ◌∷◌, ◌+◌, ◌≤◌, ◌<◌, ◌*◌, ◌++◌}
+use Rattle.theorems.specs.Names.{ClientId, Mode, Exclusive, Shared, Owner, Waiter, ToDecider, Grant, Packet, LockState, refl, sym, ◌∙◌, Bool, true}
+use Rattle.theorems.specs.Names.{false, and-true, false≢true, List, [], map, ℕ, arith, length, get_or, set, length-set, eqb}
 use Rattle.theorems.specs.Names.{leb, ltb, eq-eqb, le-leb, lt-leb, any, is_shared, plain, no_agent, is_client, grant_of, admitted, staying, joined}
-use Rattle.theorems.specs.Names.{bool_cases, clients, queue_capacity, Parting, done, first_leaves, first_stays, parting, none_leaves, ◌*◌, eqb-true}
-use Rattle.theorems.specs.Names.{lt-ltb, MachineId, Agent, Site, some_agent, waiters, waiters_of, ◌++◌, queuing, no_room, with_room, cannot_place, does}
+use Rattle.theorems.specs.Names.{bool_cases, clients, queue_capacity, Parting, done, first_leaves, first_stays, parting, none_leaves, eqb-true}
+use Rattle.theorems.specs.Names.{lt-ltb, MachineId, Agent, Site, some_agent, waiters, waiters_of, queuing, no_room, with_room, cannot_place, does}
 use Rattle.theorems.specs.Names.{true≢false, taken_off}
 use Rattle.theorems.specs.Tally.{flag, tally, tally_set, tally_le, tally_ext, tally_add, tally_zero, tally_length, tally_map, sum_to, sum_swap, sum_le}
 use Rattle.theorems.specs.Tally.{sum_add, tally_append}

@@ -1,6 +1,7 @@
 -- What a packet, a slot or a status counts for. Every count is a sum over a lock's packets and machines, so there is no agent to search for.
 -- Suffixes: M of a message, P of a packet, S of a slot, W of a waiter, F of a status or an owner. Clients and machines are numbers here.
-use Rattle.theorems.specs.Names.{Bool, true, false, ◌&&◌, not, ℕ, ◌+◌, ◌*◌, length, get_or, eqb, leb, ltb, MachineId, ClientId, Mode, Exclusive, Shared}
+use Rattle.std.specs.Prelude.{◌&&◌, ◌+◌, ◌*◌}
+use Rattle.theorems.specs.Names.{Bool, true, false, not, ℕ, length, get_or, eqb, leb, ltb, MachineId, ClientId, Mode, Exclusive, Shared}
 use Rattle.theorems.specs.Names.{Owner, Unowned, Owned, Waiter, Agent, AgentSlot, Address, ToDecider, ToMachine, Message, Acquire, Grant, Release, Free}
 use Rattle.theorems.specs.Names.{Packet, Status, Idle, Waiting, Holding, ClientState, LockState, waiters, no_agent, idle, packets, machines, clients}
 use Rattle.theorems.specs.Names.{machine_of, owned_shared, is_marked}

@@ -1,9 +1,10 @@
 -- Where writers are preferred no unmarked reader passes one in a queue (request 5 of document 02), on any cluster.
+use Rattle.std.specs.Prelude.{◌≡◌, ◌++◌, ◌+◌, ◌*◌, ◌<◌}
 use Rattle.laws.specs.Tests.{pick_by}
 use Rattle.laws.specs.Formed.{parts, packet_at_lem, lock_formed_lem}
 use Rattle.laws.specs.CallSteps.{Allowed, may_acquire, may_deliver, perform_here, not_accepted, Passes, passes}
 use Rattle.theorems.specs.Names.{LockId, MachineId, TaskId, ClientId, Shared, Agent, ToMachine, Acquire, Packet, Waiting, Site, LockState, Cluster}
-use Rattle.theorems.specs.Names.{AcquireCall, DeliverCall, Accepted, Stepped, ◌≡◌, ◌∙◌, true, false, and-false, List, [], ◌++◌, ℕ, ◌+◌, ◌*◌, ◌<◌, arith}
+use Rattle.theorems.specs.Names.{AcquireCall, DeliverCall, Accepted, Stepped, ◌∙◌, true, false, and-false, List, [], ℕ, arith}
 use Rattle.theorems.specs.Names.{length, get_or-set_same, leb, ltb-true, removed, machines, tasks, wire_capacity, client_of, is_shared, some_agent, no_agent}
 use Rattle.theorems.specs.Names.{agent_on, packets, lock_in, site_of, with_slot, with_status, Verdict, does, apply, finish, queuing, no_room, with_room}
 use Rattle.theorems.specs.Names.{writer_in, may_join, client_asks, client_acquires, unmarked, acquire_arrives, arrives, at_machine, packet_at, delivers}
