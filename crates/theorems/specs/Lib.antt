@@ -15,6 +15,7 @@ pub mod Invariant
 pub mod InvariantStep
 pub mod Facts
 pub mod Fresh
+pub mod Accepting
 -- ---- the rules
 pub mod Sent
 pub mod AtDecider
@@ -41,18 +42,24 @@ pub mod Drains
 pub mod Counts
 -- ---- why a client waits
 pub mod ReasonWeights
+pub mod ReasonOrder
 pub mod Reasons
 -- ---- first come, first served
 pub mod FirstCome
 -- ---- why a request came back
 pub mod Handlings
+pub mod TakenRequests
 -- ---- what a cluster prefers, and writers first
 pub mod Preferences
 pub mod WritersFirst
+pub mod DeciderBit
 -- ---- which packet an acquire is refused for
 pub mod Naming
 -- ---- how often a packet has circled
 pub mod Circling
+-- ---- no answer goes by a count
+pub mod Mapped
+pub mod Uncircled
 -- ---- lost grants and giving up, and what is left of who gave up
 pub mod GivingUp
 pub mod Remains

@@ -1,6 +1,6 @@
--- What is proved, in Theorems, Drains, Listings, Counts, Reasons, FirstCome, Handlings, Preferences, WritersFirst, Naming, Circling, GivingUp and Remains:
--- of the numbers of answers, and of every list of calls on a fresh cluster, made with any preference n, as given: one above 1 is refused, and the cluster
--- beside that prefers readers. Past the last, a lock reads as fresh and a client as idle.
+-- What is proved, in Theorems, Drains, Listings, Counts, Reasons, ReasonOrder, FirstCome, Handlings, TakenRequests, Preferences, WritersFirst, DeciderBit,
+-- Naming, Circling, Uncircled, GivingUp and Remains: of the numbers of answers, and of every list of calls on a fresh cluster, made with any preference n, as
+-- given: one above 1 is refused, and the cluster beside that prefers readers. Past the last, a lock reads as fresh and a client as idle.
 use Rattle.std.specs.Prelude.{◌≡◌, ◌∷◌, ◌≤◌, ◌<◌, ◌+◌, ◌-◌, ◌*◌, ◌++◌, ◌||◌, ◌&&◌}
 use Rattle.model.specs.Drain.{allowance, Quiescent, drain_calls, drain}
 use Rattle.model.specs.Trace.{is_accepted, grants_in, given_up_in}
@@ -18,7 +18,8 @@ use Rattle.theorems.specs.Names.{removed, grant_of, acquire, release, deliver, p
 use Rattle.theorems.specs.Names.{Message, Free, Acquire, Release, Handling, None, NoAgent, NotHolder, Taken, sent_back, lists, handlings_of, last_told}
 use Rattle.theorems.specs.Names.{wire_of, Site, site_of, may_share, may_join, noting, grants_first, grants_with, passes_on, new_agent, changed, Found, Nowhere}
 use Rattle.theorems.specs.Names.{At, any, IsFirst, min, get_or, history_after, note_of, lost_after, queues, unqueuing, give_up, lose, set, idle}
-use Rattle.theorems.specs.Names.{ClientState, some_agent, Idle, is_waiting, plain, installed, admitted}
+use Rattle.theorems.specs.Names.{ClientState, some_agent, Idle, is_waiting, plain, installed, admitted, Owner, Decider, Wire, AcquireCall, ReleaseCall}
+use Rattle.theorems.specs.Names.{DeliverCall, LoseCall, GiveUpCall, to_decider, sent_on, machine_of, next, listed}
 use Rattle.std.specs.Prelude.{take}
 
 -- Different answers have different numbers, and 0 is the number of the accepted alone.
@@ -44,6 +45,10 @@ WireBounded n cs = (l : LockId) → length (packets (lock_in (after n cs) l).wir
 -- One more call changes the state of its own lock alone.
 abbrev pub OthersUntouched : ℕ → List Call → Type 0
 OthersUntouched n cs = (a : Call) (l : LockId) → (l.0 ≡ (lock_of a).0 → ⊥) → lock_in (perform a (after n cs)).cluster l ≡ lock_in (after n cs) l
+
+-- That is so of a call on any cluster, made by hand or not.
+abbrev pub OthersUntouchedOnAny : Cluster → Type 0
+OthersUntouchedOnAny x = (a : Call) (l : LockId) → (l.0 ≡ (lock_of a).0 → ⊥) → lock_in (perform a x).cluster l ≡ lock_in x l
 
 -- An exclusive holder is the only holder, by the statuses.
 abbrev pub Exclusion : ℕ → List Call → Type 0
@@ -197,6 +202,29 @@ pub record WhereIs (n : ℕ) (cs : List Call) (l : LockId) (k : MachineId) (t : 
 abbrev pub WhereIsMyRequest : ℕ → List Call → Type 0
 WhereIsMyRequest n cs = (l : LockId) (k : MachineId) (t : TaskId) → l.0 < locks → k.0 < machines → t.0 < tasks → WhereIs n cs l k t
 
+-- Of the values of a reason the first is its kind, the second the index or the machine, the third the number ahead; 0 where it has none.
+abbrev pub value_of : ℕ → Reason → ℕ
+value_of n r = get_or (reason_values (Because r)) n 0
+
+-- One reason stands before another: by its kind, or within a kind by the index or the machine, or there by the number ahead.
+pub data Before (q r : Reason) : Type 0 where
+  by_kind : value_of 0 q < value_of 0 r → Before q r
+  by_place : value_of 0 q ≡ value_of 0 r → value_of 1 q < value_of 1 r → Before q r
+  by_ahead : value_of 0 q ≡ value_of 0 r → value_of 1 q ≡ value_of 1 r → value_of 2 q < value_of 2 r → Before q r
+
+-- A reason is given of a client: it waits, the reason is true, and no true one stands before it.
+pub record FirstGiven (s : LockState) (c : ClientId) (r : Reason) : Type 0 where
+  pub waits : is_waiting (status_of s c) ≡ true
+  pub holds : is_true s c r ≡ true
+  pub first_of : (q : Reason) → is_true s c q ≡ true → Before q r → ⊥
+
+-- On any cluster, made by hand or not: that is so of every reason that is given; and one is given to each client that waits, if the cluster is well formed, the
+-- numbers are in range and any reason is true.
+pub record FirstReason (x : Cluster) (l : LockId) (k : MachineId) (t : TaskId) : Type 0 where
+  pub given : (r : Reason) → reason x l k t ≡ Because r → FirstGiven (lock_in x l) (client_of k t) r
+  pub complete : well_formed x ≡ true → l.0 < locks → k.0 < machines → t.0 < tasks → is_waiting (status_of (lock_in x l) (client_of k t)) ≡ true
+      → (r : Reason) → is_true (lock_in x l) (client_of k t) r ≡ true → reason_number (reason x l k t) ≡ 0
+
 -- Request 3 of document 02: first come, first served. An agent that was under way with the index i is installed on machine k, in mode m: a is the agent as it
 -- came, s and t are the lock's states before and after.
 pub record FirstCome (s t : LockState) (i : ℕ) (k : MachineId) (m : Mode) (a : Agent) : Type 0 where
@@ -283,6 +311,36 @@ pub record TellsWhy (x : Cluster) : Type 0 where
   pub transcripts : (bytes : List ℕ) → first (replay_tests x bytes) ≡ Accepted → Last (handlings_of (calls_of bytes) x) (replay x bytes).handling
   pub untested : (bytes : List ℕ) (r : Refusal) → first (replay_tests x bytes) ≡ Refused r → (replay x bytes).handling ≡ None
 
+-- What *taken* says. The agent b lists whom a lists, but for the client c, which it lists or not, as told.
+pub record ListsBut (a b : Agent) (c : ClientId) (now : Bool) : Type 0 where
+  pub client : listed b c ≡ now
+  pub others : (d : ClientId) → (d.0 ≡ c.0 → ⊥) → listed b d ≡ listed a d
+
+-- An ACQUIRE of client c in mode m that machine k has taken: the agent is there still, and lists the client, or has it as the last in its queue.
+pub data TakenIn (s t : LockState) (k : MachineId) (c : ClientId) (m : Mode) : Type 0 where
+  then_listed : (agent_on t k).present ≡ true → ListsBut (agent_on s k).agent (agent_on t k).agent c true
+      → waiters (agent_on t k).agent.queue ≡ waiters (agent_on s k).agent.queue → TakenIn s t k c m
+  then_last : (agent_on t k).present ≡ true → (agent_on t k).agent.holders ≡ (agent_on s k).agent.holders
+      → waiters (agent_on t k).agent.queue ≡ waiters (agent_on s k).agent.queue ++ record { client = c; mode = m } ∷ [] → TakenIn s t k c m
+
+-- A RELEASE of client c that machine k has taken: the client is struck off the list of the agent, which stays, or is sent to the decider; or it is taken off
+-- the queue, and stands in it no more.
+pub data TakenOff (s t : LockState) (i : ℕ) (k : MachineId) (c : ClientId) : Type 0 where
+  struck_off : (agent_on t k).present ≡ true → ListsBut (agent_on s k).agent (agent_on t k).agent c false
+      → waiters (agent_on t k).agent.queue ≡ waiters (agent_on s k).agent.queue → packets t.wire ≡ removed (packets s.wire) i → TakenOff s t i k c
+  struck_and_sent : (m : Message) (b : Agent) → (agent_on t k).present ≡ false → ListsBut (agent_on s k).agent b c false
+      → packets t.wire ≡ removed (packets s.wire) i ++ carrying m ToDecider b ∷ [] → TakenOff s t i k c
+  off_queue : lists (agent_on s k) c ≡ false → queues (agent_on s k) c ≡ true → queues (agent_on t k) c ≡ false → Unqueued s t i k c → TakenOff s t i k c
+
+-- On any cluster, made by hand or not: that is so where a delivery to a machine tells *taken*.
+pub record TakenTells (x : Cluster) : Type 0 where
+  pub acquires : (l : LockId) (i : ℕ) (k : MachineId) (c : ClientId) (m : Mode) (g : Bool) → (packet_at (lock_in x l) i).to ≡ ToMachine k
+      → (packet_at (lock_in x l) i).message ≡ Acquire c m g → (deliver x l i).handling ≡ Taken
+      → TakenIn (lock_in x l) (lock_in (deliver x l i).cluster l) k c m
+  pub releases : (l : LockId) (i : ℕ) (k : MachineId) (c : ClientId) → (packet_at (lock_in x l) i).to ≡ ToMachine k
+      → (packet_at (lock_in x l) i).message ≡ Release c → (deliver x l i).handling ≡ Taken
+      → TakenOff (lock_in x l) (lock_in (deliver x l i).cluster l) i k c
+
 -- Request 5 of document 02: sites that prefer writers. Making a cluster: a preference is for readers or for writers, and it stays what it is.
 pub record Prefers (n : ℕ) : Type 0 where
   pub made : n < preferences → (number (fresh n).answer ≡ 0) × ((fresh n).cluster ≡ fresh_with n)
@@ -326,6 +384,61 @@ WritersFirst x =
     x.preference ≡ 1 → (l : LockId) (k : MachineId) → (agent_on (lock_in x l) k).present ≡ true → writer_in (agent_on (lock_in x l) k).agent ≡ true
     → NotPassed x l k
 
+-- The decider's half: its bit, which says that an exclusive request waits. A packet is sent on as it is: it is the last on the wire, now for machine k, and
+-- nothing else has changed.
+abbrev pub SentOnAsItIs : LockState → LockState → ℕ → MachineId → Type 0
+SentOnAsItIs s t i k =
+    t ≡ record { decider = s.decider; agents = s.agents; clients = s.clients; wire = wire_of (removed (packets s.wire) i ++ sent_on (packet_at s i) k ∷ []) }
+
+-- What moves the bit: the delivery, at the decider, of an unmarked exclusive ACQUIRE where the lock is not free; of a GRANT with agent, and of a FREE, where
+-- the incarnations are equal.
+abbrev pub is_owned : Owner → Bool
+is_owned Unowned = false
+is_owned (Owned m k) = true
+
+abbrev pub moves_by : Message → Decider → Packet → Bool
+moves_by (Acquire c m g) d p = is_owned d.owner && (not (is_shared m) && not g)
+moves_by (Grant c m) d p = p.carried.present && current d p
+moves_by (Release c) d p = false
+moves_by Free d p = current d p
+
+abbrev pub moves_bit : Call → LockState → Bool
+moves_bit (DeliverCall l i) s = to_decider (packet_at s i).to && moves_by (packet_at s i).message s.decider (packet_at s i)
+moves_bit (AcquireCall l k t m) s = false
+moves_bit (ReleaseCall l k t) s = false
+moves_bit (LoseCall l i) s = false
+moves_bit (GiveUpCall l k t) s = false
+
+-- The delivery of the packet with the index i at the decider is accepted; s and t are the lock's states before and after.
+pub record BitMoves (s t : LockState) (i : ℕ) : Type 0 where
+  -- While the bit is set, an unmarked shared ACQUIRE at a shared lock is sent on as it is.
+  pub held_back : (c : ClientId) (k : MachineId) → (packet_at s i).message ≡ Acquire c Shared false → s.decider.owner ≡ Owned Shared k
+      → s.decider.writer ≡ true → SentOnAsItIs s t i k
+  -- While it is clear, it is granted and counted, and the bit stays clear.
+  pub let_in : (c : ClientId) (k : MachineId) → (packet_at s i).message ≡ Acquire c Shared false → s.decider.owner ≡ Owned Shared k
+      → s.decider.writer ≡ false
+      → (packets t.wire
+      ≡ removed (packets s.wire) i ++ plain (Grant c Shared) (ToMachine (machine_of c)) ∷ plain (Acquire c Shared true) (ToMachine k) ∷ [])
+      × (t.decider ≡ record { owner = s.decider.owner; incarnation = next s.decider.incarnation; writer = false })
+  -- An unmarked exclusive ACQUIRE that is sent on sets it,
+  pub set : (c : ClientId) (m : Mode) (k : MachineId) → (packet_at s i).message ≡ Acquire c Exclusive false → s.decider.owner ≡ Owned m k
+      → (packets t.wire ≡ removed (packets s.wire) i ++ sent_on (packet_at s i) k ∷ []) × (t.decider.writer ≡ true)
+  -- a FREE that gives the lock back clears it,
+  pub cleared : (packet_at s i).message ≡ Free → current s.decider (packet_at s i) ≡ true → t.decider.writer ≡ false
+  -- and a GRANT that brings the agent, with equal incarnations, makes it say whether an exclusive waiter is in the carried queue.
+  pub renewed : (c : ClientId) (m : Mode) → (packet_at s i).message ≡ Grant c m → (packet_at s i).carried.present ≡ true
+      → current s.decider (packet_at s i) ≡ true → t.decider.writer ≡ writer_in (packet_at s i).carried.agent
+
+-- On any cluster that prefers writers, made by hand or not: that is so, and no other accepted call moves a lock's bit.
+pub record BitKnows (x : Cluster) : Type 0 where
+  pub moved : (l : LockId) (i : ℕ) → (packet_at (lock_in x l) i).to ≡ ToDecider → (deliver x l i).answer ≡ Accepted
+      → BitMoves (lock_in x l) (lock_in (deliver x l i).cluster l) i
+  pub kept : (a : Call) (l : LockId) → (perform a x).answer ≡ Accepted → (l.0 ≡ (lock_of a).0 → moves_bit a (lock_in x l) ≡ false)
+      → (lock_in (perform a x).cluster l).decider.writer ≡ (lock_in x l).decider.writer
+
+abbrev pub DeciderKnows : Cluster → Type 0
+DeciderKnows x = x.preference ≡ 1 → BitKnows x
+
 -- Request 6 of document 02: the packet for which an acquire is refused with 6. f is what a search of the lock's wire for the client comes to: the first packet
 -- that names it, or nowhere.
 abbrev pub is_found : Found → Bool
@@ -354,6 +467,59 @@ pub record Circled (n : ℕ) (cs : List Call) (l : LockId) : Type 0 where
 
 abbrev pub HowOften : ℕ → List Call → Type 0
 HowOften n cs = (l : LockId) → Circled n cs l
+
+-- And no answer and no listing goes by a count, but for that of a GRANT or FREE, which makes a cluster malformed. A packet as if it had not circled: an ACQUIRE
+-- or a RELEASE has the count 0; that of any other packet stays.
+abbrev pub uncircled_count : Message → ℕ → ℕ
+uncircled_count (Acquire c m g) n = 0
+uncircled_count (Release c) n = 0
+uncircled_count (Grant c m) n = n
+uncircled_count Free n = n
+
+abbrev pub uncircled : Packet → Packet
+uncircled p =
+    record { message = p.message; to = p.to; rejected = p.rejected; circled = uncircled_count p.message p.circled; carried = p.carried }
+
+-- a wire, in use or not, a lock's state and a cluster with such packets alone
+abbrev pub uncircled_wire : Wire → Wire
+uncircled_wire w = record { slots = map uncircled w.slots; len = w.len }
+
+abbrev pub uncircled_lock : LockState → LockState
+uncircled_lock s = record { decider = s.decider; agents = s.agents; clients = s.clients; wire = uncircled_wire s.wire }
+
+abbrev pub uncircled_cluster : Cluster → Cluster
+uncircled_cluster x = record { preference = x.preference; locks = map uncircled_lock x.locks }
+
+-- Two clusters are equal but for the counts of ACQUIREs and RELEASEs.
+abbrev pub ButForCounts : Cluster → Cluster → Type 0
+ButForCounts x y = uncircled_cluster x ≡ uncircled_cluster y
+
+-- Then both are well formed or neither is; each call, each list of calls, each drain, each transcript and each question for a reason has the same answer on
+-- both, tells the same handling, has the same count and the same listing, and leaves two clusters that are again equal but for these counts; and a search for
+-- the packet that names a client finds the same.
+pub record Alike (x y : Cluster) : Type 0 where
+  pub formed : well_formed x ≡ well_formed y
+  pub call_answered : (c : Call) → (perform c x).answer ≡ (perform c y).answer
+  pub call_told : (c : Call) → (perform c x).handling ≡ (perform c y).handling
+  pub call_left : (c : Call) → ButForCounts (perform c x).cluster (perform c y).cluster
+  pub run_answered : (cs : List Call) → answers_of cs x ≡ answers_of cs y
+  pub run_told : (cs : List Call) → handlings_of cs x ≡ handlings_of cs y
+  pub run_left : (cs : List Call) → ButForCounts (run cs x) (run cs y)
+  pub drain_answered : (l : LockId) → (drain x l).answer ≡ (drain y l).answer
+  pub drain_counted : (l : LockId) → (drain x l).count ≡ (drain y l).count
+  pub drain_told : (l : LockId) → (drain x l).handling ≡ (drain y l).handling
+  pub drain_left : (l : LockId) → ButForCounts (drain x l).cluster (drain y l).cluster
+  pub replay_answered : (bytes : List ℕ) → (replay x bytes).answer ≡ (replay y bytes).answer
+  pub replay_counted : (bytes : List ℕ) → (replay x bytes).records ≡ (replay y bytes).records
+  pub replay_told : (bytes : List ℕ) → (replay x bytes).handling ≡ (replay y bytes).handling
+  pub replay_left : (bytes : List ℕ) → ButForCounts (replay x bytes).cluster (replay y bytes).cluster
+  pub listed : (bytes : List ℕ) → listing x bytes ≡ listing y bytes
+  pub reasoned : (l : LockId) (k : MachineId) (t : TaskId) → reason x l k t ≡ reason y l k t
+  pub named : (l : LockId) (c : ClientId) (f : Found) → IsFirst (names c) (packets (lock_in x l).wire) f → IsFirst (names c) (packets (lock_in y l).wire) f
+
+-- On any two clusters, made by hand or not.
+abbrev pub NoCountDecides : Cluster → Cluster → Type 0
+NoCountDecides x y = ButForCounts x y → Alike x y
 
 -- Request 8 of document 02: lost grants and giving up. On any cluster, made by hand or not. What can be lost is a GRANT for c without agent, under way to k.
 pub record CanBeLost (p : Packet) (k : MachineId) (c : ClientId) (m : Mode) : Type 0 where

@@ -12,7 +12,7 @@ use Rattle.theorems.specs.Runs.{Reached, lock_fresh, reached_fresh, reached_next
 use Rattle.theorems.specs.Traced.{agrees, as_seen}
 use Rattle.theorems.specs.Weights.{client_in}
 use Rattle.theorems.specs.Statements.{Numbered, StaysFormed, NeverRefusedInside, WireBounded, OthersUntouched, Exclusion, TraceAgrees, ExclusionOfTrace}
-use Rattle.theorems.specs.Statements.{proved_bound, from_tests, NotesAgree}
+use Rattle.theorems.specs.Statements.{proved_bound, from_tests, NotesAgree, OthersUntouchedOnAny}
 
 -- the answers in the order of their numbers
 abbrev table : List Answer
@@ -68,6 +68,9 @@ wire_bounded n cs l = wire_bound (lock_in (after n cs) l) ((reached n cs).invs l
 
 pub others_untouched : (n : ℕ) (cs : List Call) → OthersUntouched n cs
 others_untouched n cs a l other = perform_elsewhere a (after n cs) l other
+
+pub others_untouched_on_any : (x : Cluster) → OthersUntouchedOnAny x
+others_untouched_on_any x a l other = perform_elsewhere a x l other
 
 pub exclusion : (n : ℕ) (cs : List Call) → Exclusion n cs
 exclusion n cs l c d m other hc hd = one_exclusive (lock_in (after n cs) l) ((reached n cs).invs l) c.0 d.0 m other hc hd
