@@ -142,7 +142,7 @@ fn offset(o3: u16, locks: u16) -> u8 {
     }
 }
 
-pub fn choose(p: Profile, seed: u32, x: Cluster, o: Outputs) -> Choice {
+pub fn choose(p: Profile, seed: u32, x: &Cluster, o: Outputs) -> Choice {
     if o.o1 % 64 < p.wild {
         return wild(o);
     }

@@ -9,7 +9,7 @@ use model::{
 use parts::search::first_naming;
 use std::io;
 
-// What goes on from step to step, beside the generator.
+// What goes on from step to step, beside the generator. It is lent: a cluster has 25 KB, and each step copies one as seldom as the calls allow.
 #[derive(Clone, Copy, Drop)]
 pub struct Progress {
     cluster: Cluster,
@@ -18,31 +18,19 @@ pub struct Progress {
 }
 
 // Item 1: the lock of the call is drained.
-fn drained(r: Progress, seed: u32, lock: u8) -> Progress {
-    let x = r.cluster;
-    let d = engine::drain(x, LockId(lock));
+fn drained(r: &mut Progress, seed: u32, lock: u8) {
+    let d = engine::drain(r.cluster, LockId(lock));
     let a = d.answer;
     let told = d.handling;
-    let y = d.cluster;
     let h = digest::byte(digest::byte(r.digest, 4), a.number());
     let h = digest::handling(h, told);
     let h = digest::byte(
         digest::byte(h, (d.count % 256) as u8),
         (d.count / 256) as u8,
     );
-    let h = digest::cluster(h, y);
+    r.digest = digest::cluster(h, d.cluster);
     if (seed / 16) % 2 == 1 {
-        Progress {
-            cluster: y,
-            digest: h,
-            accepted: r.accepted,
-        }
-    } else {
-        Progress {
-            cluster: x,
-            digest: h,
-            accepted: r.accepted,
-        }
+        r.cluster = d.cluster;
     }
 }
 
@@ -73,27 +61,26 @@ fn counted(accepted: u16, answer: u8) -> u16 {
 }
 
 // Item 2: the call is made.
-fn called(r: Progress, c: Choice) -> Progress {
-    let x = r.cluster;
-    let o = perform(x, c);
+fn called(r: &mut Progress, c: Choice) {
+    let o = perform(r.cluster, c);
     let a = o.answer;
     let n = a.number();
     let told = o.handling;
-    let y = o.cluster;
     let h = digest::byte(digest::byte(r.digest, c.kind), n);
-    Progress {
-        cluster: y,
-        digest: digest::handling(h, told),
-        accepted: counted(r.accepted, n),
-    }
+    r.cluster = o.cluster;
+    r.digest = digest::handling(h, told);
+    r.accepted = counted(r.accepted, n);
 }
 
 // Item 3: why the chosen client waits.
-fn asked(mut r: Progress, c: Choice) -> Progress {
-    let x = r.cluster;
-    let a = engine::reason(x, LockId(c.lock), MachineId(c.machine), TaskId(c.task));
+fn asked(r: &mut Progress, c: Choice) {
+    let a = engine::reason(
+        r.cluster,
+        LockId(c.lock),
+        MachineId(c.machine),
+        TaskId(c.task),
+    );
     r.digest = digest::reason(r.digest, a);
-    r
 }
 
 // Item 4, on the lock's state, where machine and task are in range.
@@ -108,35 +95,31 @@ fn searched(h: u32, s: LockState, machine: u8, task: u8) -> u32 {
 }
 
 // Item 4: which packet names the chosen client first.
-fn named(mut r: Progress, c: Choice) -> Progress {
-    let x = r.cluster;
+fn named(r: &mut Progress, c: Choice) {
     if c.lock < LOCKS as u8 {
-        let s = x.locks[c.lock as usize];
+        let s = r.cluster.locks[c.lock as usize];
         r.digest = searched(r.digest, s, c.machine, c.task);
     }
-    r
 }
 
 // Item 5: the cluster's bytes, after every sixteenth step.
-fn sampled(mut r: Progress, n: u16) -> Progress {
+fn sampled(r: &mut Progress, n: u16) {
     if n % 16 == 0 {
-        let x = r.cluster;
-        r.digest = digest::cluster(r.digest, x);
+        r.digest = digest::cluster(r.digest, r.cluster);
     }
-    r
 }
 
 // The call is chosen before the drain.
-fn step(r: Progress, s: &mut u32, p: Profile, seed: u32, n: u16) -> Progress {
+fn step(r: &mut Progress, s: &mut u32, p: Profile, seed: u32, n: u16) {
     let o = generator::eight_outputs(s);
-    let x = r.cluster;
-    let c = choose(p, seed, x, o);
-    let r = if o.o0 % 64 == 0 {
-        drained(r, seed, c.lock)
-    } else {
-        r
-    };
-    sampled(named(asked(called(r, c), c), c), n)
+    let c = choose(p, seed, &r.cluster, o);
+    if o.o0 % 64 == 0 {
+        drained(r, seed, c.lock);
+    }
+    called(r, c);
+    asked(r, c);
+    named(r, c);
+    sampled(r, n);
 }
 
 fn heading(word: &[u8], seed: u32) -> Line {
@@ -201,7 +184,7 @@ pub fn run(
     let mut n: u16 = 0;
     while n < steps {
         n += 1;
-        r = step(r, s, p, seed, n);
+        step(&mut r, s, p, seed, n);
         write_progress(rt, word, seed, n, steps, r.digest)?;
     }
     write_end(rt, word, seed, steps, r.accepted, r.digest)
