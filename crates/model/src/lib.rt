@@ -27,54 +27,54 @@ pub const PREFERENCES: u8 = 2;
 pub const ALLOWANCE: u16 = 32768;
 
 // The source's lid, mid and tid: no place that wants one takes another.
-#[derive(Clone, Copy, Drop)]
+#[derive(Clone, Copy, Drop, PartialEq, Eq)]
 pub struct LockId(pub u8);
 
-#[derive(Clone, Copy, Drop)]
+#[derive(Clone, Copy, Drop, PartialEq, Eq)]
 pub struct MachineId(pub u8);
 
-#[derive(Clone, Copy, Drop)]
+#[derive(Clone, Copy, Drop, PartialEq, Eq)]
 pub struct TaskId(pub u8);
 
 // A machine and a task: 4 × machine + task.
-#[derive(Clone, Copy, Drop)]
+#[derive(Clone, Copy, Drop, PartialEq, Eq)]
 pub struct ClientId(pub u8);
 
-#[derive(Clone, Copy, Drop)]
+#[derive(Clone, Copy, Drop, PartialEq, Eq)]
 pub enum Mode {
     Exclusive,
     Shared,
 }
 
 // A decider's mode and the machine of the agent, which is nil exactly when the lock is free.
-#[derive(Clone, Copy, Drop)]
+#[derive(Clone, Copy, Drop, PartialEq, Eq)]
 pub enum Owner {
     Free,
     Owned(Mode, MachineId),
 }
 
 // writer: the source's ww, an exclusive request is known to wait.
-#[derive(Clone, Copy, Drop)]
+#[derive(Clone, Copy, Drop, PartialEq, Eq)]
 pub struct Decider {
     pub owner: Owner,
     pub incarnation: u8,
     pub writer: bool,
 }
 
-#[derive(Clone, Copy, Drop)]
+#[derive(Clone, Copy, Drop, PartialEq, Eq)]
 pub struct Waiter {
     pub client: ClientId,
     pub mode: Mode,
 }
 
 // The first len slots count, the others are blank; so too of a wire.
-#[derive(Clone, Copy, Drop)]
+#[derive(Clone, Copy, Drop, PartialEq, Eq)]
 pub struct Queue {
     pub slots: [Waiter; QUEUE_CAPACITY],
     pub len: u8,
 }
 
-#[derive(Clone, Copy, Drop)]
+#[derive(Clone, Copy, Drop, PartialEq, Eq)]
 pub struct Agent {
     pub mode: Mode,
     pub holders: [bool; CLIENTS],
@@ -83,20 +83,20 @@ pub struct Agent {
 }
 
 // An agent or none, on a machine and inside a packet.
-#[derive(Clone, Copy, Drop)]
+#[derive(Clone, Copy, Drop, PartialEq, Eq)]
 pub struct AgentSlot {
     pub present: bool,
     pub agent: Agent,
 }
 
-#[derive(Clone, Copy, Drop)]
+#[derive(Clone, Copy, Drop, PartialEq, Eq)]
 pub enum Address {
     Decider,
     Machine(MachineId),
 }
 
 // Free stands first: the machine's default value is then a blank packet's.
-#[derive(Clone, Copy, Drop)]
+#[derive(Clone, Copy, Drop, PartialEq, Eq)]
 pub enum Message {
     Free,
     Acquire {
@@ -114,7 +114,7 @@ pub enum Message {
 }
 
 // Document 01's 'turned back' is rejected: the decider refused the packet. circled: how often a machine has sent it back, or 255 where it was more often.
-#[derive(Clone, Copy, Drop)]
+#[derive(Clone, Copy, Drop, PartialEq, Eq)]
 pub struct Packet {
     pub message: Message,
     pub to: Address,
@@ -123,13 +123,13 @@ pub struct Packet {
     pub carried: AgentSlot,
 }
 
-#[derive(Clone, Copy, Drop)]
+#[derive(Clone, Copy, Drop, PartialEq, Eq)]
 pub struct Wire {
     pub slots: [Packet; WIRE_CAPACITY],
     pub len: u8,
 }
 
-#[derive(Clone, Copy, Drop)]
+#[derive(Clone, Copy, Drop, PartialEq, Eq)]
 pub enum Status {
     Idle,
     Waiting(Mode),
@@ -137,7 +137,7 @@ pub enum Status {
 }
 
 // lost: it waits, and its GRANT was lost.
-#[derive(Clone, Copy, Drop)]
+#[derive(Clone, Copy, Drop, PartialEq, Eq)]
 pub struct ClientState {
     pub status: Status,
     pub lost: bool,
@@ -145,7 +145,7 @@ pub struct ClientState {
 
 // What a step looks at: the cluster's preference; and what it may write of a lock's record: the decider, one machine's agent or none, one client's status
 // and its note.
-#[derive(Clone, Copy, Drop)]
+#[derive(Clone, Copy, Drop, PartialEq, Eq)]
 pub struct Site {
     pub preference: u8,
     pub decider: Decider,
@@ -155,7 +155,7 @@ pub struct Site {
 }
 
 // A lock's record in document 01. The wire, nine tenths of it, comes first: so the compiler makes a new state where it is to be, and saves a copy.
-#[derive(Clone, Copy, Drop)]
+#[derive(Clone, Copy, Drop, PartialEq, Eq)]
 pub struct LockState {
     pub wire: Wire,
     pub decider: Decider,
@@ -164,14 +164,14 @@ pub struct LockState {
 }
 
 // The bench in document 01. Its preference, 0 for readers and 1 for writers, is as given when it was made.
-#[derive(Clone, Copy, Drop)]
+#[derive(Clone, Copy, Drop, PartialEq, Eq)]
 pub struct Cluster {
     pub preference: u8,
     pub locks: [LockState; LOCKS],
 }
 
 // A call as data. Its numbers are as given, in range or not.
-#[derive(Clone, Copy, Drop)]
+#[derive(Clone, Copy, Drop, PartialEq, Eq)]
 pub enum Call {
     Acquire {
         lock: LockId,
@@ -200,7 +200,7 @@ pub enum Call {
 }
 
 // One for each row of the table of refusals.
-#[derive(Clone, Copy, Drop)]
+#[derive(Clone, Copy, Drop, PartialEq, Eq)]
 pub enum Refusal {
     Malformed,
     LockRange,
@@ -222,7 +222,7 @@ pub enum Refusal {
     CannotLose,
 }
 
-#[derive(Clone, Copy, Drop)]
+#[derive(Clone, Copy, Drop, PartialEq, Eq)]
 pub enum Answer {
     Accepted,
     Refused(Refusal),
@@ -230,7 +230,7 @@ pub enum Answer {
 
 // Why a client waits: its ACQUIRE, its GRANT or its rejected GRANT is on the wire, at an index; or it stands in the queue of the agent on a machine, or of
 // the one carried by the packet at an index, with so many ahead; or its GRANT was lost.
-#[derive(Clone, Copy, Drop)]
+#[derive(Clone, Copy, Drop, PartialEq, Eq)]
 pub enum Reason {
     Requested { index: u8 },
     Granted { index: u8 },
@@ -241,14 +241,14 @@ pub enum Reason {
 }
 
 // What the question for the reason is answered.
-#[derive(Clone, Copy, Drop)]
+#[derive(Clone, Copy, Drop, PartialEq, Eq)]
 pub enum ReasonAnswer {
     Because(Reason),
     Refused(Refusal),
 }
 
 // What a search comes to: nowhere, or the index of what it found.
-#[derive(Clone, Copy, Drop)]
+#[derive(Clone, Copy, Drop, PartialEq, Eq)]
 pub enum Found {
     Nowhere,
     At(u8),
@@ -256,7 +256,7 @@ pub enum Found {
 
 // What a machine made of an ACQUIRE or RELEASE that was delivered to it: it has no agent; it has one that neither lists nor queues the client of the
 // RELEASE; or it took it. None: the step was no such delivery, or was refused.
-#[derive(Clone, Copy, Drop)]
+#[derive(Clone, Copy, Drop, PartialEq, Eq)]
 pub enum Handling {
     None,
     NoAgent,
@@ -265,7 +265,7 @@ pub enum Handling {
 }
 
 // What a step on one lock gives.
-#[derive(Clone, Copy, Drop)]
+#[derive(Clone, Copy, Drop, PartialEq, Eq)]
 pub struct Stepped {
     pub answer: Answer,
     pub handling: Handling,
@@ -273,7 +273,7 @@ pub struct Stepped {
 }
 
 // What a call gives.
-#[derive(Clone, Copy, Drop)]
+#[derive(Clone, Copy, Drop, PartialEq, Eq)]
 pub struct Outcome {
     pub answer: Answer,
     pub handling: Handling,
@@ -281,7 +281,7 @@ pub struct Outcome {
 }
 
 // What a drain gives: the steps taken, 0 where it is refused, and the last handling that one of them gave.
-#[derive(Clone, Copy, Drop)]
+#[derive(Clone, Copy, Drop, PartialEq, Eq)]
 pub struct Drained {
     pub answer: Answer,
     pub count: u16,
@@ -290,7 +290,7 @@ pub struct Drained {
 }
 
 // What stands at a position of a transcript.
-#[derive(Clone, Copy, Drop)]
+#[derive(Clone, Copy, Drop, PartialEq, Eq)]
 pub enum Reading {
     Record { call: Call, next: usize },
     Bad,
@@ -299,7 +299,7 @@ pub enum Reading {
 
 // What the run of a transcript gives: the count of its records, the number of the bad one, or 0 where it is too long; and the last handling that a record's
 // step gave.
-#[derive(Clone, Copy, Drop)]
+#[derive(Clone, Copy, Drop, PartialEq, Eq)]
 pub struct Replayed {
     pub answer: Answer,
     pub records: u16,
