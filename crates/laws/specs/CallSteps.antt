@@ -1,5 +1,5 @@
 -- A call on a well-formed cluster, by cases: refused by a test, or every test passed and the call is its step on one lock.
-use Rattle.std.specs.Prelude.{◌≡◌, refl, Bool, true, false, ◌&&◌, ◌||◌, not, List, [], ◌∷◌, ℕ, ◌+◌, ◌<◌, ◌≤◌, length, eqb, leb}
+use Rattle.std.specs.Prelude.{◌≡◌, refl, Bool, true, false, ◌&&◌, ◌||◌, not, List, [], ◌∷◌, ℕ, ◌+◌, ◌<◌, ◌≤◌, length, eqb, leb, Option, Ok}
 use Rattle.std.proofs.Common.{sym, ap, ◌∙◌, true≢false, arith, get_or-set_same, get_or-set_other, eqb-true, leb-false}
 use Rattle.std.proofs.lemmas.Bool.{false≢true, not-false}
 use Rattle.model.specs.Lists.{any, all, removed}
@@ -125,23 +125,23 @@ call_cases (GiveUpCall l k t) x w =
 -- ---- the frame: of other locks, and of the call's own
 settled_elsewhere : (a : Answer) (x : Cluster) (l : LockId) (t : Stepped) (j : LockId) → (j.0 ≡ l.0 → ⊥) → lock_in (settled a x l t).cluster j ≡ lock_in x j
 unfolding settled
-settled_elsewhere Accepted x l t j n = get_or-set_other x.locks l.0 j.0 t.state fresh_lock n
+settled_elsewhere (Ok tt) x l t j n = get_or-set_other x.locks l.0 j.0 t.state fresh_lock n
 settled_elsewhere (Refused r) x l t j n = refl
 
 unless_elsewhere : (a : Answer) (x : Cluster) (l : LockId) (t : Stepped) (j : LockId) → (j.0 ≡ l.0 → ⊥) → lock_in (unless a x l t).cluster j ≡ lock_in x j
 unfolding unless
-unless_elsewhere Accepted x l t j n = settled_elsewhere t.answer x l t j n
+unless_elsewhere (Ok tt) x l t j n = settled_elsewhere t.answer x l t j n
 unless_elsewhere (Refused r) x l t j n = refl
 
 -- and no call changes the preference
 settled_preference : (a : Answer) (x : Cluster) (l : LockId) (t : Stepped) → (settled a x l t).cluster.preference ≡ x.preference
 unfolding settled
-settled_preference Accepted x l t = refl
+settled_preference (Ok tt) x l t = refl
 settled_preference (Refused r) x l t = refl
 
 unless_preference : (a : Answer) (x : Cluster) (l : LockId) (t : Stepped) → (unless a x l t).cluster.preference ≡ x.preference
 unfolding unless
-unless_preference Accepted x l t = settled_preference t.answer x l t
+unless_preference (Ok tt) x l t = settled_preference t.answer x l t
 unless_preference (Refused r) x l t = refl
 
 pub perform_preference : (c : Call) (x : Cluster) → (perform c x).cluster.preference ≡ x.preference
@@ -180,14 +180,14 @@ unfolding finish
 finish_tells k c cannot_place rest s = refl
 finish_tells k c (does v qs) rest s = pick_by (λ (t : Stepped). t.handling ≡ None) (leb (length rest + length qs) wire_capacity) (λ q. refl) (λ q. refl)
 
-pub told_none : (a : Answer) {h : Handling} → h ≡ None → told_by a h ≡ None
-told_none Accepted e = e
+pub told_none : (a : Answer) {h : Option Handling} → h ≡ None → told_by a h ≡ None
+told_none (Ok tt) e = e
 told_none (Refused r) e = refl
 
 pub telling_none : (k : MachineId) (c : ClientId) (w : Verdict) (rest : List Packet) (s : LockState) → telling None (finish k c w rest s) ≡ finish k c w rest s
 telling_none k c w rest s =
     let t = finish k c w rest s in
-    ap (λ (h : Handling). record { answer = t.answer; handling = h; state = t.state }) (told_none t.answer refl ∙ sym (finish_tells k c w rest s))
+    ap (λ (h : Option Handling). record { answer = t.answer; handling = h; state = t.state }) (told_none t.answer refl ∙ sym (finish_tells k c w rest s))
 
 pub step_refused : (n : ℕ) (c : Call) (s : LockState) (r : Refusal) → (step_of n c s).answer ≡ Refused r → step_of n c s ≡ refused r s
 unfolding acquire_step release_step deliver_step takes give_up_step lose_step drops
@@ -200,12 +200,12 @@ step_refused n (DeliverCall l i) s r e = ap (telling _) (finish_refused _ _ _ (r
 settled_here : (a : Answer) (x : Cluster) (l : LockId) (t : Stepped) → l.0 < length x.locks → ((r : Refusal) → a ≡ Refused r → t ≡ refused r (lock_in x l))
     → lock_in (settled a x l t).cluster l ≡ t.state
 unfolding settled
-settled_here Accepted x l t h f = get_or-set_same x.locks l.0 t.state fresh_lock h
+settled_here (Ok tt) x l t h f = get_or-set_same x.locks l.0 t.state fresh_lock h
 settled_here (Refused r) x l t h f = sym (ap (λ (u : Stepped). u.state) (f r refl))
 
 pub settled_answer : (a : Answer) (x : Cluster) (l : LockId) (t : Stepped) → (settled a x l t).answer ≡ a
 unfolding settled
-settled_answer Accepted x l t = refl
+settled_answer (Ok tt) x l t = refl
 settled_answer (Refused r) x l t = refl
 
 pub perform_here : (c : Call) (x : Cluster) → well_formed x ≡ true → (lock_of c).0 < locks → perform c x ≡ outcome_of c x

@@ -1,5 +1,5 @@
 -- Every call keeps a cluster well formed.
-use Rattle.std.specs.Prelude.{◌≡◌, refl, true, [], ℕ, ltb}
+use Rattle.std.specs.Prelude.{◌≡◌, refl, true, [], ℕ, ltb, Ok}
 use Rattle.std.proofs.Common.{◌∙◌, arith, length-set, eq-eqb}
 use Rattle.std.proofs.Math.Decide.{ℕ_discrete}
 use Rattle.laws.specs.Names.{LockId, LockState, Cluster, Call, Answer, Accepted, Refused, Stepped, Outcome}
@@ -41,7 +41,7 @@ step_formed w _ s (may_give_up k t n e) f = give_up_formed w s _ (omega arith) f
 settled_formed : (a : Answer) (x : Cluster) (l : LockId) (t : Stepped) → well_formed x ≡ true → lock_formed x.preference t.state ≡ true
     → well_formed (settled a x l t).cluster ≡ true
 unfolding settled well_formed
-settled_formed Accepted x l t w f =
+settled_formed (Ok tt) x l t w f =
     let p = cells x w in
     rw (p.preference, eq-eqb _ locks (length-set x.locks l.0 t.state ∙ p.all_locks))
     (all_set (lock_formed x.preference) x.locks l.0 t.state p.locks f)

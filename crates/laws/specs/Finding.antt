@@ -6,7 +6,7 @@ use Rattle.std.proofs.lemmas.Bool.{false≢true}
 use mathlib.Core.List.{List, [], ◌∷◌}
 use Prim.Native.Nat.{ℕ, zero, suc, ◌+◌, ◌<◌}
 use native.Mathlib.Omega.{arith}
-use Rattle.model.specs.declared.{Found.Found, Found.TheVariants.{Nowhere, At}}
+use Rattle.model.specs.Names.{Found, Nowhere, At}
 use Rattle.model.specs.Lists.{pick, any, is_at, removed, IsFirst}
 use Rattle.model.specs.WellFormed.{is_client}
 use Rattle.model.specs.AtMachine.{taken_off}

@@ -10,7 +10,6 @@ pub use Rattle.model.specs.declared.{Call.Call, Call.TheVariants.{Acquire as Acq
 pub use Rattle.model.specs.declared.{Call.TheVariants.{Lose as LoseCall, GiveUp as GiveUpCall}}
 pub use Rattle.model.specs.declared.{Refusal.Refusal}
 pub use Rattle.model.specs.declared.{Refusal.TheVariants.{Malformed}}
-pub use Rattle.model.specs.declared.{Answer.Answer}
-pub use Rattle.model.specs.declared.{Answer.TheVariants.{Accepted, Refused}}
-pub use Rattle.model.specs.declared.{Handling.Handling, Handling.TheVariants.{None}}
+pub use Rattle.model.specs.Names.{Answer, Accepted, Refused, None}
+pub use Rattle.model.specs.declared.{Handling.Handling}
 pub use Rattle.model.specs.declared.{Stepped.Stepped, Outcome.Outcome}

@@ -1,5 +1,5 @@
 -- Records of a transcript: where one ends, its kind, and what the run, its listing and its calls are from one on.
-use Rattle.std.specs.Prelude.{◌≡◌, ◌&&◌, List, [], ◌∷◌, ◌++◌, ℕ, suc, ◌+◌, ◌-◌, ◌≤◌, eqb, leb, ltb}
+use Rattle.std.specs.Prelude.{◌≡◌, ◌&&◌, List, [], ◌∷◌, ◌++◌, ℕ, suc, ◌+◌, ◌-◌, ◌≤◌, eqb, leb, ltb, Option}
 use Rattle.std.proofs.Common.{sym}
 use native.Mathlib.Omega.{arith}
 use Rattle.std.proofs.Math.ListN.{length}
@@ -59,12 +59,12 @@ unfolding read_record
 end_at bytes i h = rw (le-leb (length bytes) i h)
 
 -- ---- the run, the lines and the calls from position i on, with one record more to read than so many
-pub record Reads (left : ℕ) (bytes : List ℕ) (i n : ℕ) (h : Handling) (x : Cluster) (r : Replayed) (bs : List ℕ) (cs : List Call) : Type 0 where
+pub record Reads (left : ℕ) (bytes : List ℕ) (i n : ℕ) (h : Option Handling) (x : Cluster) (r : Replayed) (bs : List ℕ) (cs : List Call) : Type 0 where
   pub run : replay_from (suc left) bytes i n h x ≡ r
   pub lines : lines_from (suc left) bytes i n x ≡ bs
   pub calls : calls_from (suc left) bytes i ≡ cs
 
-module _ (left : ℕ) (bytes : List ℕ) (i n : ℕ) (h : Handling) (x : Cluster) where
+module _ (left : ℕ) (bytes : List ℕ) (i n : ℕ) (h : Option Handling) (x : Cluster) where
   pub at_record : (c : Call) (j : ℕ) → read_record bytes i ≡ Record c j
       → Reads left bytes i n h x (replay_from left bytes j (n + 1) (latest h (perform c x).handling) (perform c x).cluster)
       (line_of (n + 1) (row_of c x) ++ lines_from left bytes j (n + 1) (perform c x).cluster) (c ∷ calls_from left bytes j)

@@ -1,5 +1,5 @@
 -- What a machine does with a packet (document 01, "At a machine"; Figure 7 and 4.2 of the source).
-use Rattle.std.specs.Prelude.{Bool, true, false, ◌&&◌, ◌||◌, List, [], ◌∷◌, map, ℕ, ◌+◌, min, set}
+use Rattle.std.specs.Prelude.{Bool, true, false, ◌&&◌, ◌||◌, List, [], ◌∷◌, map, ℕ, ◌+◌, min, set, Option, Some}
 use Rattle.model.specs.Lists.{pick, any}
 use Rattle.model.specs.Names.{ClientId, Mode, Shared, Waiter, Agent, AgentSlot, ToDecider, Message, Free, Acquire, Grant, Release, Packet, Status, Idle}
 use Rattle.model.specs.Names.{Waiting, Holding, Site, Handling, None, NoAgent, NotHolder, Taken}
@@ -133,8 +133,8 @@ at_machine v p = arrives p.message v p
 
 -- Why a request comes back (request 4 of document 02): what a machine with this slot makes of it. An ACQUIRE is for any agent, a RELEASE for the one that lists
 -- or queues its client. A GRANT and a FREE are no requests.
-unfoldable pub handles : Message → AgentSlot → Handling
-handles (Acquire c m g) x = pick x.present Taken NoAgent
-handles (Release c) x = pick x.present (pick (lists x c || queues x c) Taken NotHolder) NoAgent
+unfoldable pub handles : Message → AgentSlot → Option Handling
+handles (Acquire c m g) x = pick x.present (Some Taken) (Some NoAgent)
+handles (Release c) x = pick x.present (pick (lists x c || queues x c) (Some Taken) (Some NotHolder)) (Some NoAgent)
 handles (Grant c m) x = None
 handles Free x = None

@@ -1,5 +1,5 @@
 -- The calls on a cluster, and lists of calls.
-use Rattle.std.specs.Prelude.{Bool, true, false, ◌&&◌, ◌||◌, not, List, [], ◌∷◌, ℕ, length, get_or, set, eqb, leb, ltb}
+use Rattle.std.specs.Prelude.{Bool, true, false, ◌&&◌, ◌||◌, not, List, [], ◌∷◌, ℕ, length, get_or, set, eqb, leb, ltb, Option, Some, Ok}
 use Rattle.model.specs.Lists.{pick, any, removed}
 use Rattle.model.specs.Names.{LockId, MachineId, TaskId, ClientId, Mode, Address, ToDecider, ToMachine, Message, Free, Acquire, Grant, Release, Packet}
 use Rattle.model.specs.Names.{Status, Idle, Waiting, Holding, LockState, Cluster, Call, AcquireCall, ReleaseCall, DeliverCall, LoseCall, GiveUpCall}
@@ -41,7 +41,7 @@ delivers ToDecider v p = at_decider v p
 delivers (ToMachine k) v p = at_machine v p
 
 -- What it tells: a machine's handling. The decider tells none.
-unfoldable pub handled_at : Address → Message → AgentSlot → Handling
+unfoldable pub handled_at : Address → Message → AgentSlot → Option Handling
 handled_at ToDecider m x = None
 handled_at (ToMachine k) m x = handles m x
 
@@ -139,11 +139,11 @@ abbrev pub with_lock : Cluster → LockId → LockState → Cluster
 with_lock x l s = record { preference = x.preference; locks = set x.locks l.0 s }
 
 unfoldable pub settled : Answer → Cluster → LockId → Stepped → Outcome
-settled Accepted x l t = record { answer = Accepted; handling = t.handling; cluster = with_lock x l t.state }
+settled (Ok tt) x l t = record { answer = Accepted; handling = t.handling; cluster = with_lock x l t.state }
 settled (Refused r) x l t = refusing r x
 
 unfoldable pub unless : Answer → Cluster → LockId → Stepped → Outcome
-unless Accepted x l t = settled t.answer x l t
+unless (Ok tt) x l t = settled t.answer x l t
 unless (Refused r) x l t = refusing r x
 
 unfoldable pub acquire : Cluster → LockId → MachineId → TaskId → ℕ → Outcome
@@ -195,16 +195,14 @@ abbrev pub after : ℕ → List Call → Cluster
 after n cs = run cs (fresh n).cluster
 
 -- The handlings that the calls of a list tell, in its order, and the last of these: the one told before them where they tell none.
-abbrev pub handlings_of : List Call → Cluster → List Handling
+abbrev pub handlings_of : List Call → Cluster → List (Option Handling)
 handlings_of [] x = []
 handlings_of (c ∷ cs) x = (perform c x).handling ∷ handlings_of cs (perform c x).cluster
 
-abbrev pub latest : Handling → Handling → Handling
+abbrev pub latest : Option Handling → Option Handling → Option Handling
 latest h None = h
-latest h NoAgent = NoAgent
-latest h NotHolder = NotHolder
-latest h Taken = Taken
+latest h (Some g) = Some g
 
-unfoldable pub last_told : Handling → List Handling → Handling
+unfoldable pub last_told : Option Handling → List (Option Handling) → Option Handling
 last_told h [] = h
 last_told h (g ∷ gs) = last_told (latest h g) gs

@@ -1,6 +1,6 @@
 -- A step is about one machine and one client, fixed before its rule runs. It takes a packet off the wire or none, writes the decider,
 -- the machine's agent and the client's status and note, and appends packets: nothing else moves.
-use Rattle.std.specs.Prelude.{Bool, false, List, ◌++◌, ℕ, ◌+◌, length, set, leb}
+use Rattle.std.specs.Prelude.{Bool, false, List, ◌++◌, ℕ, ◌+◌, length, set, leb, Option, Ok}
 use Rattle.model.specs.Lists.{pick}
 use Rattle.model.specs.Names.{MachineId, ClientId, Decider, AgentSlot, Packet, Status, Site, LockState, Refusal, CannotPlace, WireFull, Answer}
 use Rattle.model.specs.Names.{Accepted, Refused, Handling, None, Stepped}
@@ -51,9 +51,9 @@ finish k c (does v sends) rest s =
     pick (leb (length rest + length sends) wire_capacity) (accepted (apply k c v sends rest s)) (refused WireFull s)
 
 -- A step that is accepted may tell a handling beside its answer; one that is refused tells none.
-abbrev pub told_by : Answer → Handling → Handling
-told_by Accepted h = h
+abbrev pub told_by : Answer → Option Handling → Option Handling
+told_by (Ok tt) h = h
 told_by (Refused r) h = None
 
-abbrev pub telling : Handling → Stepped → Stepped
+abbrev pub telling : Option Handling → Stepped → Stepped
 telling h t = record { answer = t.answer; handling = told_by t.answer h; state = t.state }

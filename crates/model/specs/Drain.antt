@@ -1,6 +1,6 @@
 -- The drain of a lock (document 01, "Draining a lock"): its packets are delivered, its holders release, and those whose GRANT was lost give up, until nothing
 -- is left to do.
-use Rattle.std.specs.Prelude.{not, List, [], ◌∷◌, ℕ, zero, suc, ◌/◌, ◌%◌, length, leb}
+use Rattle.std.specs.Prelude.{not, List, [], ◌∷◌, ℕ, zero, suc, ◌/◌, ◌%◌, length, leb, Ok}
 use Rattle.model.specs.Lists.{pick}
 use Rattle.model.specs.Names.{LockId, Packet, ClientState, LockState, Cluster, Call, ReleaseCall, DeliverCall, GiveUpCall, Refusal, Malformed}
 use Rattle.model.specs.Names.{LockRange, NotQuiescent, Answer, Accepted, Refused, None, Drained}
@@ -63,7 +63,7 @@ drainage zero l x = elim (next_call l (lock_in x l)) [ none ↦ ending Accepted 
 drainage (suc left) l x =
     elim (next_call l (lock_in x l)) [
       | none ↦ ending Accepted x
-      | some c ↦ elim (perform c x).answer [ Accepted ↦ after_one c (drainage left l (perform c x).cluster) | Refused r ↦ ending (Refused r) x ]
+      | some c ↦ elim (perform c x).answer [ Ok tt ↦ after_one c (drainage left l (perform c x).cluster) | Refused r ↦ ending (Refused r) x ]
     ]
 
 -- the calls that a drain makes
@@ -76,13 +76,13 @@ abbrev pub drain_refused : Refusal → Cluster → Drained
 drain_refused r x = record { answer = Refused r; count = 0; handling = None; cluster = x }
 
 unfoldable pub drain_ended : Answer → Cluster → Drainage → Drained
-drain_ended Accepted x d =
+drain_ended (Ok tt) x d =
     record { answer = Accepted; count = length d.calls; handling = last_told None (handlings_of d.calls x); cluster = d.cluster }
 drain_ended (Refused r) x d = drain_refused r x
 
 unfoldable pub drain_unless : Answer → LockId → Cluster → Drained
 drain_unless (Refused r) l x = drain_refused r x
-drain_unless Accepted l x = drain_ended (drainage allowance l x).answer x (drainage allowance l x)
+drain_unless (Ok tt) l x = drain_ended (drainage allowance l x).answer x (drainage allowance l x)
 
 unfoldable pub drain : Cluster → LockId → Drained
 drain x l = drain_unless (first ((Malformed when not (well_formed x)) ∷ (LockRange when leb locks l.0) ∷ [])) l x

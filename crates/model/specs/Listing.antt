@@ -1,5 +1,5 @@
 -- The listing of a transcript, as bytes (document 01, "Transcripts and the desk program"): a header, and a line for each record of the run.
-use Rattle.std.specs.Prelude.{List, [], ◌∷◌, ◌++◌, ℕ, zero, suc, ◌+◌, ◌/◌, ◌%◌, min, length, set, eqb, ltb}
+use Rattle.std.specs.Prelude.{List, [], ◌∷◌, ◌++◌, ℕ, zero, suc, ◌+◌, ◌/◌, ◌%◌, min, length, set, eqb, ltb, Ok}
 use Rattle.model.specs.Lists.{pick}
 use Rattle.model.specs.Names.{Cluster, Call, AcquireCall, ReleaseCall, DeliverCall, LoseCall, GiveUpCall, Refusal, BadRecord, Answer, Accepted, Refused}
 use Rattle.model.specs.Names.{Record, Bad, End}
@@ -67,7 +67,7 @@ lines_from (suc left) bytes i n x =
 
 unfoldable pub lines_unless : Answer → Cluster → List ℕ → List ℕ
 lines_unless (Refused r) x bytes = refused_line 0 r
-lines_unless Accepted x bytes = lines_from (length bytes + 1) bytes 0 0 x
+lines_unless (Ok tt) x bytes = lines_from (length bytes + 1) bytes 0 0 x
 
 -- The listing of a transcript that is run on x. The program's is that of a fresh cluster that prefers readers.
 unfoldable pub listing : Cluster → List ℕ → List ℕ

@@ -1,5 +1,5 @@
 -- Why a client waits (document 02, "Where is my request"): what of it is under way, and where.
-use Rattle.std.specs.Prelude.{Bool, false, ◌&&◌, not, List, [], ◌∷◌, ◌++◌, map, ℕ, suc, leb}
+use Rattle.std.specs.Prelude.{Bool, false, ◌&&◌, not, List, [], ◌∷◌, ◌++◌, map, ℕ, suc, leb, Ok}
 use Rattle.model.specs.Lists.{pick, is_at, indices}
 use Rattle.model.specs.Names.{LockId, MachineId, TaskId, ClientId, AgentSlot, Message, Free, Acquire, Grant, Release, Packet, LockState, Cluster}
 use Rattle.model.specs.Names.{Answer, Accepted, Refused, MachineRange, TaskRange, NotWaiting, Reason, Requested, Granted, Rejected, Queued, Carried}
@@ -65,7 +65,7 @@ abbrev pub reason_tests : MachineId → TaskId → List Cause
 reason_tests k t = (MachineRange when leb machines k.0) ∷ (TaskRange when leb tasks t.0) ∷ []
 
 unfoldable pub reason_unless : Answer → LockState → ClientId → ReasonAnswer
-reason_unless Accepted s c = reason_in s c
+reason_unless (Ok tt) s c = reason_in s c
 reason_unless (Refused r) s c = NoReason r
 
 unfoldable pub reason : Cluster → LockId → MachineId → TaskId → ReasonAnswer

@@ -1,5 +1,5 @@
 -- Answers, and the numbers by which they are known (document 01, "Zero and the refusals").
-use Rattle.std.specs.Prelude.{Bool, true, false, List, [], ◌∷◌, ℕ}
+use Rattle.std.specs.Prelude.{Bool, true, false, List, [], ◌∷◌, ℕ, Ok, Err, Result}
 use Rattle.model.specs.Names.{Refusal, Malformed, LockRange, MachineRange, TaskRange, ModeRange, NotIdle, StillNamed, NotHolding, IndexRange}
 use Rattle.model.specs.Names.{CannotPlace, WireFull, BadRecord, TranscriptLength, NotQuiescent, NotWaiting, PreferenceRange, CannotGiveUp, CannotLose}
 use Rattle.model.specs.Names.{Answer, Accepted, Refused}
@@ -42,10 +42,10 @@ refusal_number CannotGiveUp = 17
 -- only a GRANT without agent that is on its way to a machine can be lost
 refusal_number CannotLose = 18
 
--- 0 is the number of Accepted alone.
-abbrev pub number : Answer → ℕ
-number Accepted = 0
-number (Refused r) = refusal_number r
+-- 0 is the number of Accepted alone; and of what else a call gives where it refuses nothing.
+abbrev pub number : {A : Type 0} → Result A Refusal → ℕ
+number (Ok x) = 0
+number (Err r) = refusal_number r
 
 infixl 20 ◌when◌
 -- A refusal with its cause. Of the causes of a call, in their order, the first that holds decides; where none holds, the call is accepted.

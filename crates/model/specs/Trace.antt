@@ -1,6 +1,6 @@
 -- Who waits and who holds, by what the calls of a run did (document 01, "Runs, waits and holds"). The statuses are not looked at: that they agree
 -- is a theorem.
-use Rattle.std.specs.Prelude.{Bool, true, false, ◌&&◌, ◌||◌, not, List, [], ◌∷◌, ℕ, ◌+◌, eqb}
+use Rattle.std.specs.Prelude.{Bool, true, false, ◌&&◌, ◌||◌, not, List, [], ◌∷◌, ℕ, ◌+◌, eqb, Ok}
 use Rattle.model.specs.Lists.{pick}
 use Rattle.model.specs.Names.{LockId, ClientId, Mode, Address, ToDecider, ToMachine, Message, Free, Acquire, Grant, Release, Packet, Status, Idle}
 use Rattle.model.specs.Names.{Accepted, Refused, Waiting, Holding, Cluster, Call, AcquireCall, ReleaseCall, DeliverCall, LoseCall, GiveUpCall, Answer}
@@ -29,7 +29,7 @@ abbrev pub same_client : ClientId → ClientId → Bool
 same_client c d = eqb c.0 d.0
 
 abbrev pub is_accepted : Answer → Bool
-is_accepted Accepted = true
+is_accepted (Ok tt) = true
 is_accepted (Refused r) = false
 
 -- the agent of the client's machine lists it

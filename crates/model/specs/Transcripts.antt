@@ -1,5 +1,5 @@
 -- Transcripts: bytes that are a row of records, each a call (document 01, "Transcripts and the desk program").
-use Rattle.std.specs.Prelude.{◌&&◌, not, List, [], ◌∷◌, ℕ, zero, suc, ◌+◌, ◌-◌, ◌*◌, length, get_or, eqb, leb, ltb}
+use Rattle.std.specs.Prelude.{◌&&◌, not, List, [], ◌∷◌, ℕ, zero, suc, ◌+◌, ◌-◌, ◌*◌, length, get_or, eqb, leb, ltb, Option, Ok}
 use Rattle.model.specs.Lists.{pick}
 use Rattle.model.specs.Names.{Cluster, Call, AcquireCall, ReleaseCall, DeliverCall, LoseCall, GiveUpCall, Malformed, BadRecord, TranscriptLength}
 use Rattle.model.specs.Names.{Answer, Accepted, Refused, Handling, None, Reading, Record, Bad, End, Replayed}
@@ -58,11 +58,11 @@ given (Record c j) = goes_on c j
 given Bad = ends (Refused BadRecord) 1
 given End = ends Accepted 0
 
-abbrev pub replayed : Answer → ℕ → Handling → Cluster → Replayed
+abbrev pub replayed : Answer → ℕ → Option Handling → Cluster → Replayed
 replayed a n h x = record { answer = a; records = n; handling = h; cluster = x }
 
 -- From position i on, with n records read and the last handling that they told. The first number bounds the records that are left.
-unfoldable pub replay_from : ℕ → List ℕ → ℕ → ℕ → Handling → Cluster → Replayed
+unfoldable pub replay_from : ℕ → List ℕ → ℕ → ℕ → Option Handling → Cluster → Replayed
 replay_from zero bytes i n h x = replayed Accepted n h x
 replay_from (suc left) bytes i n h x =
     elim (given (read_record bytes i)) [
@@ -72,7 +72,7 @@ replay_from (suc left) bytes i n h x =
 
 unfoldable pub replay_unless : Answer → Cluster → List ℕ → Replayed
 replay_unless (Refused r) x bytes = replayed (Refused r) 0 None x
-replay_unless Accepted x bytes = replay_from (length bytes + 1) bytes 0 0 None x
+replay_unless (Ok tt) x bytes = replay_from (length bytes + 1) bytes 0 0 None x
 
 -- Two tests come before any record.
 abbrev pub replay_tests : Cluster → List ℕ → List Cause

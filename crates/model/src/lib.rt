@@ -2,10 +2,11 @@
 // the rest is `well_formed` in specs/WellFormed.antt.
 #![tactic(auto)]
 
-ghost use Rattle.std.specs.Prelude.{◌≡◌};
+ghost use Rattle.std.specs.Prelude.{◌≡◌, ◌||◌, ℕ, Ok, Err, eqb};
+ghost use Rattle.model.specs.Lists.{pick};
+ghost use Rattle.model.specs.declared.Refusal.TheVariants.{ModeRange};
+ghost use Rattle.model.specs.States.{mode_number, mode_of};
 ghost use Rattle.model.specs.Refusals.{refusal_number, number};
-ghost use Rattle.model.specs.Reasons.{reason_number};
-ghost use Rattle.model.specs.Calls.{latest};
 
 // The sizes of the cluster: specs/States.antt has the same numbers under the same names.
 pub const LOCKS: usize = 8;
@@ -222,11 +223,8 @@ pub enum Refusal {
     CannotLose,
 }
 
-#[derive(Clone, Copy, Drop, PartialEq, Eq)]
-pub enum Answer {
-    Accepted,
-    Refused(Refusal),
-}
+// What a call is answered: accepted, or a refusal.
+pub type Answer = Result<(), Refusal>;
 
 // Why a client waits: its ACQUIRE, its GRANT or its rejected GRANT is on the wire, at an index; or it stands in the queue of the agent on a machine, or of
 // the one carried by the packet at an index, with so many ahead; or its GRANT was lost.
@@ -241,24 +239,12 @@ pub enum Reason {
 }
 
 // What the question for the reason is answered.
-#[derive(Clone, Copy, Drop, PartialEq, Eq)]
-pub enum ReasonAnswer {
-    Because(Reason),
-    Refused(Refusal),
-}
-
-// What a search comes to: nowhere, or the index of what it found.
-#[derive(Clone, Copy, Drop, PartialEq, Eq)]
-pub enum Found {
-    Nowhere,
-    At(u8),
-}
+pub type ReasonAnswer = Result<Reason, Refusal>;
 
 // What a machine made of an ACQUIRE or RELEASE that was delivered to it: it has no agent; it has one that neither lists nor queues the client of the
-// RELEASE; or it took it. None: the step was no such delivery, or was refused.
+// RELEASE; or it took it. A step that was no such delivery, or was refused, tells none.
 #[derive(Clone, Copy, Drop, PartialEq, Eq)]
 pub enum Handling {
-    None,
     NoAgent,
     NotHolder,
     Taken,
@@ -268,7 +254,7 @@ pub enum Handling {
 #[derive(Clone, Copy, Drop, PartialEq, Eq)]
 pub struct Stepped {
     pub answer: Answer,
-    pub handling: Handling,
+    pub handling: Option<Handling>,
     pub state: LockState,
 }
 
@@ -276,7 +262,7 @@ pub struct Stepped {
 #[derive(Clone, Copy, Drop, PartialEq, Eq)]
 pub struct Outcome {
     pub answer: Answer,
-    pub handling: Handling,
+    pub handling: Option<Handling>,
     pub cluster: Cluster,
 }
 
@@ -285,7 +271,7 @@ pub struct Outcome {
 pub struct Drained {
     pub answer: Answer,
     pub count: u16,
-    pub handling: Handling,
+    pub handling: Option<Handling>,
     pub cluster: Cluster,
 }
 
@@ -303,29 +289,49 @@ pub enum Reading {
 pub struct Replayed {
     pub answer: Answer,
     pub records: u16,
-    pub handling: Handling,
+    pub handling: Option<Handling>,
     pub cluster: Cluster,
 }
 
-impl Handling {
-    // The one that is told next, or this one where that is none.
-    pub fn latest(self, next: Handling) -> Handling
-        ensures { result ≡ latest self next }
+impl Mode {
+    // The source's number.
+    pub fn number(self) -> u8
+        ensures { result ≡ mode_number self }
     {
-        match next {
-            Handling::None => self,
-            Handling::NoAgent => Handling::NoAgent,
-            Handling::NotHolder => Handling::NotHolder,
-            Handling::Taken => Handling::Taken,
+        match self {
+            Mode::Exclusive => 2,
+            Mode::Shared => 3,
         }
     }
 }
 
-impl Refusal {
-    // Document 01's number.
-    pub fn number(self) -> u8
-        ensures { result ≡ refusal_number self }
-    {
+impl TryFrom<u8> for Mode {
+    type Error = Refusal;
+
+    // A request is exclusive or shared.
+    ghost try_from_gives = { λ n r. r ≡ pick (eqb n 2 || eqb n 3) (Ok (mode_of n)) (Err ModeRange) };
+
+    fn try_from(number: u8) -> Result<Mode, Refusal> {
+        match number {
+            2 => Ok(Mode::Exclusive),
+            3 => Ok(Mode::Shared),
+            _ => Err(Refusal::ModeRange),
+        }
+    }
+}
+
+// What has one of the papers' numbers.
+pub trait Numbered {
+    ghost number_of: { Self → ℕ };
+
+    fn number(self) -> u8
+        ensures { result ≡ number_of self };
+}
+
+impl Numbered for Refusal {
+    ghost number_of = { refusal_number };
+
+    fn number(self) -> u8 {
         match self {
             Refusal::Malformed => 11,
             Refusal::LockRange => 1,
@@ -349,26 +355,14 @@ impl Refusal {
     }
 }
 
-impl Answer {
-    // Document 01's number: 0 for Accepted alone.
-    pub fn number(self) -> u8
-        ensures { result ≡ number self }
-    {
-        match self {
-            Answer::Accepted => 0,
-            Answer::Refused(r) => r.number(),
-        }
-    }
-}
+// 0 is the number of what was accepted or given, and of nothing else.
+impl<T: Copy> Numbered for Result<T, Refusal> {
+    ghost number_of = { number };
 
-impl ReasonAnswer {
-    // Document 02's number: 0 for a reason.
-    pub fn number(self) -> u8
-        ensures { result ≡ reason_number self }
-    {
+    fn number(self) -> u8 {
         match self {
-            ReasonAnswer::Because(_) => 0,
-            ReasonAnswer::Refused(r) => r.number(),
+            Ok(_) => 0,
+            Err(refusal) => refusal.number(),
         }
     }
 }

@@ -1,5 +1,5 @@
 -- The two counts of a lock's state (the model's Counts) are what the invariant says of agents, incarnations and marks.
-use Rattle.std.specs.Prelude.{◌≡◌, ◌∷◌, ◌≤◌, ◌<◌}
+use Rattle.std.specs.Prelude.{◌≡◌, ◌∷◌, ◌≤◌, ◌<◌, Ok}
 use Rattle.model.specs.Drain.{drain_calls, drain}
 use Rattle.theorems.specs.Names.{LockId, ClientId, Agent, AgentSlot, Packet, Status, LockState, Cluster, Call, Answer, refl, sym, ap, ◌∙◌, Bool}
 use Rattle.theorems.specs.Names.{true, false≢true, List, [], ℕ, arith, length, eqb, ltb, eqb-true, eqb-false, eq-eqb, ne_eqb, ltb-true}
@@ -111,7 +111,7 @@ tested_placed a e =
     rw (ne_eqb (number a) 9 (λ q. false≢true (rw q at e)), ne_eqb (number a) 10 (λ q. false≢true (rw q at e)))
 
 accepted_placed : (a : Answer) → is_accepted a ≡ true → is_placed a ≡ true
-accepted_placed Accepted e = refl
+accepted_placed (Ok tt) e = refl
 accepted_placed (Refused r) e = absurd (false≢true e)
 
 all_so : {A : Type 0} (p q : A → Bool) → ((x : A) → p x ≡ true → q x ≡ true) → (xs : List A) → all p xs ≡ true → all q xs ≡ true

@@ -1,5 +1,5 @@
 -- Why a request came back: what a delivery to a machine tells, and what a drain and a transcript tell last (request 4 of document 02), on any cluster.
-use Rattle.std.specs.Prelude.{◌≡◌, ◌∷◌, ◌++◌, ◌+◌, ◌&&◌, ◌<◌, ◌||◌}
+use Rattle.std.specs.Prelude.{◌≡◌, ◌∷◌, ◌++◌, ◌+◌, ◌&&◌, ◌<◌, ◌||◌, Option, Some, Ok, is_none}
 use Rattle.model.specs.Drain.{allowance, drainage, drain_calls, drain_refused, drain_ended, drain_unless, drain}
 use Rattle.model.specs.Refusals.{◌when◌, first}
 use Rattle.laws.specs.Lists.{all_append}
@@ -19,7 +19,7 @@ use Rattle.model.specs.Changes.{told_by}
 use Rattle.std.proofs.Common.{append-nil, append_assoc}
 use Rattle.std.proofs.Math.Seq.{append_snoc}
 use Rattle.theorems.specs.Listings.{lists_all}
-use Rattle.theorems.specs.Statements.{is_request, WentBack, Stayed, Handled, told_no_agent, not_holder, acquire_taken, release_taken, no_request, is_none}
+use Rattle.theorems.specs.Statements.{is_request, WentBack, Stayed, Handled, told_no_agent, not_holder, acquire_taken, release_taken, no_request}
 use Rattle.theorems.specs.Statements.{Last, none_told, told_last, TellsWhy, Unqueued, release_unqueued}
 
 -- ---- What a rule's verdict leads to, where its step is accepted: the packet goes back, or no request is sent.
@@ -70,7 +70,7 @@ module _ (pref : ℕ) (s : LockState) (i : ℕ) (k : MachineId) (c : ClientId) w
 
   -- the Bools: there is an agent, it lists the client
   acquired : (m : Mode) (g b : Bool) → (agent_on s k).present ≡ b → (finish k c (acquire_arrives b v v.slot.agent p c m g) rest s).answer ≡ Accepted
-      → Handled s (finish k c (acquire_arrives b v v.slot.agent p c m g) rest s).state i k (Acquire c m g) (pick b Taken NoAgent)
+      → Handled s (finish k c (acquire_arrives b v v.slot.agent p c m g) rest s).state i k (Acquire c m g) (pick b (Some Taken) (Some NoAgent))
   unfolding acquire_arrives
   acquired m g false h e = told_no_agent refl h (went_back e)
   acquired m g true h e = acquire_taken h (stayed _ (takes_acquire _ m g) e)
@@ -89,7 +89,7 @@ module _ (pref : ℕ) (s : LockState) (i : ℕ) (k : MachineId) (c : ClientId) w
   hands d q = pick d (leaves v v.slot.agent c) (pick q unqueues (sends_back v p))
 
   released : (b d q : Bool) → (agent_on s k).present ≡ b → lists v.slot c ≡ d → queues v.slot c ≡ q → (finish k c (hands d q) rest s).answer ≡ Accepted
-      → Handled s (finish k c (hands d q) rest s).state i k (Release c) (pick b (pick (d || q) Taken NotHolder) NoAgent)
+      → Handled s (finish k c (hands d q) rest s).state i k (Release c) (pick b (pick (d || q) (Some Taken) (Some NotHolder)) (Some NoAgent))
   released true true q h j u e = release_taken j (stayed _ (takes_release v.slot.agent) e)
   released true false true h j u e = release_unqueued j u (unqueued e)
   released true false false h j u e = not_holder h j u (went_back e)
@@ -127,19 +127,19 @@ module _ (x : Cluster) (l : LockId) (t : Stepped) where
   unless_tells : (a : Answer) → t.handling ≡ None → (unless a x l t).handling ≡ None
   unfolding unless settled
   unless_tells (Refused r) e = refl
-  unless_tells Accepted e = go t.answer
+  unless_tells (Ok tt) e = go t.answer
     where
       go : (b : Answer) → (settled b x l t).handling ≡ None
-      go Accepted = e
+      go (Ok tt) = e
       go (Refused r) = refl
 
   unless_refused : (a : Answer) (r : Refusal) → (unless a x l t).answer ≡ Refused r → (unless a x l t).handling ≡ None
   unfolding unless settled
   unless_refused (Refused q) r e = refl
-  unless_refused Accepted r e = go t.answer e
+  unless_refused (Ok tt) r e = go t.answer e
     where
       go : (b : Answer) → (settled b x l t).answer ≡ Refused r → (settled b x l t).handling ≡ None
-      go Accepted e = absurd (not_accepted (sym e))
+      go (Ok tt) e = absurd (not_accepted (sym e))
       go (Refused q) e = refl
 
 refused_call : (c : Call) (x : Cluster) (r : Refusal) → (perform c x).answer ≡ Refused r → (perform c x).handling ≡ None
@@ -151,21 +151,19 @@ refused_call (LoseCall l i) x r e = unless_refused x l _ _ r e
 refused_call (GiveUpCall l k t) x r e = unless_refused x l _ _ r e
 
 -- ---- the last of a list
-next_told : {hs : List Handling} {h : Handling} (g : Handling) → Last hs h → Last (hs ++ g ∷ []) (latest h g)
-next_told {hs = hs} NoAgent l = told_last hs [] refl refl refl
-next_told {hs = hs} NotHolder l = told_last hs [] refl refl refl
-next_told {hs = hs} Taken l = told_last hs [] refl refl refl
+next_told : {hs : List (Option Handling)} {h : Option Handling} (g : Option Handling) → Last hs h → Last (hs ++ g ∷ []) (latest h g)
+next_told {hs = hs} (Some g) l = told_last hs [] refl refl refl
 next_told {hs = hs} None (none_told e) = none_told (all_append is_none hs (None ∷ []) e refl)
 next_told {hs = hs} None (told_last before {h = h} behind q n e) =
     let s : hs ++ None ∷ [] ≡ before ++ h ∷ (behind ++ None ∷ []) = rw q (append_assoc before (h ∷ behind) (None ∷ [])) in
     told_last before (behind ++ None ∷ []) s n (all_append is_none behind (None ∷ []) e refl)
 
-last_after : {hs : List Handling} {h : Handling} (gs : List Handling) → Last hs h → Last (hs ++ gs) (last_told h gs)
+last_after : {hs : List (Option Handling)} {h : Option Handling} (gs : List (Option Handling)) → Last hs h → Last (hs ++ gs) (last_told h gs)
 unfolding last_told
 last_after [] l = rw append-nil l
 last_after {hs = hs} (g ∷ gs) l = rw (← append_snoc hs g gs) (last_after gs (next_told g l))
 
-last_of : (gs : List Handling) → Last gs (last_told None gs)
+last_of : (gs : List (Option Handling)) → Last gs (last_told None gs)
 last_of gs = last_after {hs = []} gs (none_told refl)
 
 -- ---- of a drain, by its tests and how it ends
@@ -175,11 +173,11 @@ module _ (x : Cluster) (l : LockId) where
   by_end P f g = tests (first ((Malformed when not (well_formed x)) ∷ (LockRange when leb locks l.0) ∷ []))
     where
       end : (a : Answer) → P (drain_ended a x (drainage allowance l x))
-      end Accepted = g
+      end (Ok tt) = g
       end (Refused r) = f r
 
       tests : (a : Answer) → P (drain_unless a l x)
-      tests Accepted = end (drainage allowance l x).answer
+      tests (Ok tt) = end (drainage allowance l x).answer
       tests (Refused r) = f r
 
   drain_tells : (drain x l).answer ≡ Accepted → Last (handlings_of (drain_calls l x) x) (drain x l).handling

@@ -1,5 +1,5 @@
 -- The run of a transcript and its listing, by the transcript's calls.
-use Rattle.std.specs.Prelude.{◌≡◌, ◌∷◌, ◌++◌, ◌+◌, ◌-◌, ◌*◌, ◌≤◌}
+use Rattle.std.specs.Prelude.{◌≡◌, ◌∷◌, ◌++◌, ◌+◌, ◌-◌, ◌*◌, ◌≤◌, Option}
 use Rattle.model.specs.declared.Reading.{Reading}
 use Rattle.model.specs.declared.Reading.TheVariants.{Record, Bad, End}
 use Rattle.std.specs.Prelude.{◌/◌}
@@ -15,7 +15,7 @@ use Rattle.theorems.specs.Statements.{rows_of, lines_of, last_line, last_records
 use Rattle.std.proofs.Common.{append_assoc}
 
 -- ---- From position i on, with n records read: so many calls are left at most, and each record takes some of the bytes.
-record From (left : ℕ) (bytes : List ℕ) (i n : ℕ) (h : Handling) (x : Cluster) : Type 0 where
+record From (left : ℕ) (bytes : List ℕ) (i n : ℕ) (h : Option Handling) (x : Cluster) : Type 0 where
   runs : (replay_from (suc left) bytes i n h x).cluster ≡ run (calls_from left bytes i) x
   told : (replay_from (suc left) bytes i n h x).handling ≡ last_told h (handlings_of (calls_from left bytes i) x)
   counts : (replay_from (suc left) bytes i n h x).records ≡ n + (length (calls_from left bytes i) + last_records (replay_from (suc left) bytes i n h x).answer)
@@ -24,20 +24,20 @@ record From (left : ℕ) (bytes : List ℕ) (i n : ℕ) (h : Handling) (x : Clus
       ++ last_line (replay_from (suc left) bytes i n h x).answer (replay_from (suc left) bytes i n h x).records
 
 module _ (bytes : List ℕ) where
-  from_end : (left i n : ℕ) (h : Handling) (x : Cluster) → calls_from left bytes i ≡ [] → read_record bytes i ≡ End → From left bytes i n h x
+  from_end : (left i n : ℕ) (h : Option Handling) (x : Cluster) → calls_from left bytes i ≡ [] → read_record bytes i ≡ End → From left bytes i n h x
   unfolding run last_told
   from_end left i n h x q e =
       let s = at_end left bytes i n h x e in
       record { runs = rw (s.run, q); told = rw (s.run, q); counts = rw (s.run, q) (omega arith); lines = rw (s.lines, s.run, q) }
 
-  from_bad : (left i n : ℕ) (h : Handling) (x : Cluster) → read_record bytes i ≡ Bad → From (suc left) bytes i n h x
+  from_bad : (left i n : ℕ) (h : Option Handling) (x : Cluster) → read_record bytes i ≡ Bad → From (suc left) bytes i n h x
   unfolding run last_told
   from_bad left i n h x e =
       let s = at_bad (suc left) bytes i n h x e in
       let q = (at_bad left bytes i n h x e).calls in
       record { runs = rw (s.run, q); told = rw (s.run, q); counts = rw (s.run, q) (omega arith); lines = rw (s.lines, s.run, q) }
 
-  from_record : (left i n : ℕ) (h : Handling) (x : Cluster) (c : Call) (j : ℕ) → read_record bytes i ≡ Record c j
+  from_record : (left i n : ℕ) (h : Option Handling) (x : Cluster) (c : Call) (j : ℕ) → read_record bytes i ≡ Record c j
       → From left bytes j (n + 1) (latest h (perform c x).handling) (perform c x).cluster → From (suc left) bytes i n h x
   unfolding run last_told
   from_record left i n h x c j e f =
@@ -50,7 +50,7 @@ module _ (bytes : List ℕ) where
         lines = rw (s.lines, s.run, q, f.lines) (sym (append_assoc (line_of (n + 1) (row_of c x)) _ _));
       }
 
-  from : (left i n : ℕ) (h : Handling) (x : Cluster) → length bytes ≤ i + left → From left bytes i n h x
+  from : (left i n : ℕ) (h : Option Handling) (x : Cluster) → length bytes ≤ i + left → From left bytes i n h x
   unfolding calls_from
   from zero i n h x b = from_end zero i n h x refl (end_at bytes i (omega arith))
   from (suc left) i n h x b = go (read_record bytes i) refl (λ c j e. from left j (n + 1) _ _ (omega (arith, record_ends bytes i c j e)))

@@ -13,11 +13,9 @@ pub use Rattle.model.specs.declared.{Refusal.Refusal}
 pub use Rattle.model.specs.declared.{Refusal.TheVariants.{Malformed, LockRange, MachineRange, TaskRange, ModeRange, NotIdle, StillNamed, NotHolding}}
 pub use Rattle.model.specs.declared.{Refusal.TheVariants.{IndexRange, CannotPlace, WireFull, BadRecord, TranscriptLength, NotQuiescent, NotWaiting}}
 pub use Rattle.model.specs.declared.{Refusal.TheVariants.{PreferenceRange, CannotGiveUp, CannotLose}}
-pub use Rattle.model.specs.declared.{Answer.Answer, Answer.TheVariants.{Accepted, Refused}}
+pub use Rattle.model.specs.Names.{Answer, Accepted, Refused, ReasonAnswer, Because, NoReason, Found, Nowhere, At, None}
 pub use Rattle.model.specs.declared.{Reason.Reason, Reason.TheVariants.{Requested, Granted, Rejected, Queued, Carried, GrantLost}}
-pub use Rattle.model.specs.declared.{ReasonAnswer.ReasonAnswer, ReasonAnswer.TheVariants.{Because, Refused as NoReason}}
-pub use Rattle.model.specs.declared.{Found.Found, Found.TheVariants.{Nowhere, At}}
-pub use Rattle.model.specs.declared.{Handling.Handling, Handling.TheVariants.{None, NoAgent, NotHolder, Taken}}
+pub use Rattle.model.specs.declared.{Handling.Handling, Handling.TheVariants.{NoAgent, NotHolder, Taken}}
 pub use Rattle.model.specs.declared.{Stepped.Stepped, Outcome.Outcome, Drained.Drained}
 -- ---- the library
 pub use Rattle.std.specs.Prelude.{refl, Bool, true, false, not, List, [], map, ℕ, zero, suc, min, max, length, get_or, set, replicate, eqb, leb, ltb}

@@ -1,5 +1,5 @@
 -- The packet for which an acquire is refused with 6 (request 6 of document 02), on any cluster.
-use Rattle.std.specs.Prelude.{◌≡◌, ◌∷◌, ◌+◌}
+use Rattle.std.specs.Prelude.{◌≡◌, ◌∷◌, ◌+◌, Ok}
 use Rattle.model.specs.Refusals.{Cause, ◌when◌, first}
 use Rattle.laws.specs.Tests.{pick_by}
 use Rattle.laws.specs.Lists.{at_any}
@@ -33,7 +33,7 @@ finish_number k c (does v qs) rest s e =
 
 by_tests : (a : Answer) (x : Cluster) (l : LockId) (t : Stepped) → (number t.answer ≡ 6 → ⊥) → number (unless a x l t).answer ≡ 6 → number a ≡ 6
 unfolding unless
-by_tests Accepted x l t n e = absurd (n (rw (settled_answer t.answer x l t) at e))
+by_tests (Ok tt) x l t n e = absurd (n (rw (settled_answer t.answer x l t) at e))
 by_tests (Refused r) x l t n e = e
 
 module _ (x : Cluster) (l : LockId) (k : MachineId) (t : TaskId) where

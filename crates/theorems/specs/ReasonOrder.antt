@@ -1,5 +1,5 @@
 -- Of all reasons that are true of a client the first is given: by kind, then by index or machine, then by those ahead, on any cluster.
-use Rattle.std.specs.Prelude.{◌≡◌, ◌∷◌, ◌++◌, ◌≤◌, ◌<◌, ◌+◌, ◌⊎◌}
+use Rattle.std.specs.Prelude.{◌≡◌, ◌∷◌, ◌++◌, ◌≤◌, ◌<◌, ◌+◌, ◌⊎◌, Ok}
 use Rattle.std.proofs.Math.Logic.{inl, inr}
 use Rattle.model.specs.Refusals.{first}
 use Rattle.model.specs.Calls.{causes}
@@ -280,5 +280,5 @@ first_reason x l k t =
     }
   where
     go : (r : Reason) (a : Answer) → reason_unless a (lock_in x l) (client_of k t) ≡ Because r → FirstGiven (lock_in x l) (client_of k t) r
-    go r Accepted e = given_first (lock_in x l) (client_of k t) r e
+    go r (Ok tt) e = given_first (lock_in x l) (client_of k t) r e
     go r (Refused n) e = absurd (false≢true (ap is_because e))

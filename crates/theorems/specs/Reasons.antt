@@ -1,5 +1,5 @@
 -- Why a client waits (the model's Reasons). Where it waits, one reason is true of it; and the search tries all that can be true, so it comes to that one.
-use Rattle.std.specs.Prelude.{◌≡◌, ◌∷◌, ◌+◌, ◌≤◌}
+use Rattle.std.specs.Prelude.{◌≡◌, ◌∷◌, ◌+◌, ◌≤◌, Ok}
 use Rattle.std.proofs.Math.Logic.{inl, inr}
 use Rattle.theorems.specs.Names.{ClientId, Mode, Exclusive, Shared, Status, Idle, Waiting, Holding, LockState}
 use Rattle.theorems.specs.Names.{Call, Refusal, Answer, Accepted, Refused, NotWaiting, Reason, Requested, Granted, Rejected, Queued, Carried, GrantLost}
@@ -135,7 +135,7 @@ no_zero : (r : Refusal) → refusal_number r ≡ 0 → ⊥
 no_zero r e = false≢true (ap is_accepted (numbered.accepts (Refused r) e))
 
 abbrev refused_with : Answer → ReasonAnswer
-refused_with Accepted = NoReason NotWaiting
+refused_with (Ok tt) = NoReason NotWaiting
 refused_with (Refused r) = NoReason r
 
 pub reasons_numbered : ReasonsNumbered

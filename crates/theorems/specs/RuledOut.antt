@@ -1,6 +1,6 @@
 -- What the contracts rule out. An engine is what a program answers to each call on each cluster; it meets the contracts where it equals
 -- the model. None of the following behaviours meets them, by the scenario that document 01 names for it. Likewise of drains, and of searches of a wire.
-use Rattle.std.specs.Prelude.{◌≡◌, refl, not, List, [], ◌∷◌, ℕ, zero, suc, length, drop, get_or, leb}
+use Rattle.std.specs.Prelude.{unwrap_or, ◌≡◌, refl, not, List, [], ◌∷◌, ℕ, zero, suc, length, drop, get_or, leb, Ok}
 use Rattle.std.proofs.Common.{sym, ap, ◌∙◌, true≢false, arith}
 use Rattle.theorems.specs.Names.{LockId, MachineId, Mode, Shared, Unowned, Owned, AgentSlot, Cluster, Call, DeliverCall, LockRange, Refusal, Answer}
 use Rattle.theorems.specs.Names.{Accepted, Refused, Outcome, Malformed, LockState, Drained, locks, number, ClientId, Packet, Found, Nowhere, At, any}
@@ -134,7 +134,7 @@ own (suc n) l x = go (next_call l (lock_in x l)) refl (own n l)
   where
     step : (a : Call) → next_call l (lock_in x l) ≡ some a → (r : Answer) → (perform a x).answer ≡ r
         → Own (perform a x).cluster l (drainage n l (perform a x).cluster) → Own x l (drainage (suc n) l x)
-    step a e Accepted q o =
+    step a e (Ok tt) q o =
         rw (e, drainage) (rw q
         (record { quiescent = o.quiescent; others = λ j h. o.others j h ∙ perform_elsewhere a x j (rw (next_lock (next_is l (lock_in x l) a e)) h) }))
     step a e (Refused r) q o = rw (e, drainage) (rw q (record { quiescent = λ w. absurd (apart r (sym w)); others = λ j h. refl }))
@@ -157,11 +157,11 @@ unfolding drain drain_unless drain_ended
 drain_honest x l = by_tests (first ((Malformed when not (well_formed x)) ∷ (LockRange when leb locks l.0) ∷ []))
   where
     by_end : (a : Answer) → (drainage allowance l x).answer ≡ a → Honest x l (drain_ended a x (drainage allowance l x))
-    by_end Accepted e = record { counted = λ q. refl; ended = λ q. (own allowance l x).quiescent e; others = (own allowance l x).others }
+    by_end (Ok tt) e = record { counted = λ q. refl; ended = λ q. (own allowance l x).quiescent e; others = (own allowance l x).others }
     by_end (Refused r) e = refused_honest x l r
 
     by_tests : (a : Answer) → Honest x l (drain_unless a l x)
-    by_tests Accepted = by_end (drainage allowance l x).answer refl
+    by_tests (Ok tt) = by_end (drainage allowance l x).answer refl
     by_tests (Refused r) = refused_honest x l r
 
 -- so an invented step count, an early stop and a touched neighbour are each ruled out
@@ -187,7 +187,7 @@ finds_last f m h = true≢false (h (packets d6.wire) (client 4) 0 (found_on f m 
 pub finds_next : (f : Searcher) → MeetsSearch f → ((ps : List Packet) (c : ClientId) (i : ℕ) → IsFirst (names c) ps (At i) → f ps c ≡ At (suc i)) → ⊥
 finds_next f m h =
     let clash : At 0 ≡ At 1 = sym (found_on f m _ _ _ (wires_searched D7)) ∙ h (packets d6.wire) (client 4) 0 (wires_searched D7) in
-    let z : ◌≡◌ {A = ℕ} 0 1 = cc in
+    let z : ◌≡◌ {A = ℕ} 0 1 = ap (λ (g : Found). unwrap_or g 0) clash in
     omega arith
 
 -- one that takes a FREE to name client 0

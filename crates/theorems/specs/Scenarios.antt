@@ -2,7 +2,7 @@
 -- handlings of request 4, request 5's preference for writers, the counts of request 7, and request 8's lost grants and giving up: each a start state,
 -- calls on lock 0, and the numbers of the answers
 -- and the whole cluster that follow, or what is told. One list, by name, and one theorem, by computation.
-use Rattle.std.specs.Prelude.{◌≡◌, refl, Bool, true, false, List, [], ◌∷◌, ◌++◌, map, ℕ, set, replicate}
+use Rattle.std.specs.Prelude.{◌≡◌, refl, Bool, true, false, List, [], ◌∷◌, ◌++◌, map, ℕ, set, replicate, Option, Some}
 use Rattle.model.specs.Lists.{padded, removed}
 use Rattle.theorems.specs.Names.{LockId, MachineId, ClientId, Mode, Exclusive, Shared, Owned, Decider, Waiter, Agent, AgentSlot, ToDecider, ToMachine}
 use Rattle.theorems.specs.Names.{Message, Free, Acquire, Grant, Release, Packet, Status, Idle, Waiting, Holding, ClientState, LockState, Cluster, Call}
@@ -120,7 +120,7 @@ pub data Scenario : Type 0 where
   -- from this state of lock 0: calls, and how many grants they show to each of these clients
   granted : LockState → List Call → List ℕ → List ℕ → Scenario
   -- from this state of lock 0: calls, and the handlings that they tell
-  told : LockState → List Call → List Handling → Scenario
+  told : LockState → List Call → List (Option Handling) → Scenario
   -- from this state of lock 0, whose wire is empty: calls, and the numbers of the history then
   numbered : LockState → List Call → List ℕ → Scenario
   -- from this state of lock 0: the call that a drain makes first
@@ -450,10 +450,10 @@ scenarios granted-locally = from d1_held (acquires0 0 1 3 ∷ []) (0 ∷ []) f_l
 scenarios unmarked-joins = from f_unmarked (delivers0 0 ∷ []) (0 ∷ []) f_granted
 scenarios waiter-returns = from f_rejected (delivers0 0 ∷ []) (0 ∷ []) f_requeued
 -- what a machine makes of a marked ACQUIRE without an agent and with one, of a RELEASE at an agent that does not list its client, of an unmarked ACQUIRE
-scenarios D3-told = told d3 (delivers0 1 ∷ delivers0 2 ∷ []) (NoAgent ∷ None ∷ [])
-scenarios D5-told = told d4 (delivers0 1 ∷ delivers0 0 ∷ []) (Taken ∷ None ∷ [])
-scenarios D6-told = told d2 (delivers0 0 ∷ releases0 1 0 ∷ delivers0 1 ∷ delivers0 1 ∷ []) (None ∷ None ∷ None ∷ NotHolder ∷ [])
-scenarios D8-told = told d1_held (acquires0 1 0 2 ∷ delivers0 0 ∷ delivers0 0 ∷ []) (None ∷ None ∷ Taken ∷ [])
+scenarios D3-told = told d3 (delivers0 1 ∷ delivers0 2 ∷ []) ((Some NoAgent) ∷ None ∷ [])
+scenarios D5-told = told d4 (delivers0 1 ∷ delivers0 0 ∷ []) ((Some Taken) ∷ None ∷ [])
+scenarios D6-told = told d2 (delivers0 0 ∷ releases0 1 0 ∷ delivers0 1 ∷ delivers0 1 ∷ []) (None ∷ None ∷ None ∷ (Some NotHolder) ∷ [])
+scenarios D8-told = told d1_held (acquires0 1 0 2 ∷ delivers0 0 ∷ delivers0 0 ∷ []) (None ∷ None ∷ (Some Taken) ∷ [])
 -- the preference for writers
 scenarios writer-noted = writing d1_held (acquires0 1 0 2 ∷ delivers0 0 ∷ []) (0 ∷ 0 ∷ []) w_noted
 scenarios reader-sent-on = writing w_noted (acquires0 2 0 3 ∷ delivers0 1 ∷ []) (0 ∷ 0 ∷ []) w_sent_on
@@ -483,7 +483,7 @@ scenarios lost-drained = drained lost_noted_is 0 6 fresh_lock
 scenarios lost-granted =
     granted lost_noted_is (delivers0 0 ∷ releases0 0 0 ∷ gives_up0 1 0 ∷ delivers0 0 ∷ delivers0 0 ∷ delivers0 0 ∷ []) (0 ∷ 4 ∷ []) (0 ∷ 0 ∷ [])
 scenarios unqueued = from d8_queued (gives_up0 1 0 ∷ delivers0 0 ∷ delivers0 0 ∷ []) (replicate 3 0) unqueued_is
-scenarios unqueued-told = told d8_queued (gives_up0 1 0 ∷ delivers0 0 ∷ delivers0 0 ∷ []) (None ∷ None ∷ Taken ∷ [])
+scenarios unqueued-told = told d8_queued (gives_up0 1 0 ∷ delivers0 0 ∷ delivers0 0 ∷ []) (None ∷ None ∷ (Some Taken) ∷ [])
 scenarios early = from fresh_lock (acquires0 0 0 2 ∷ gives_up0 0 0 ∷ []) (0 ∷ 0 ∷ []) early_is
 scenarios early-again = from early_is (delivers0 1 ∷ delivers0 1 ∷ []) (0 ∷ 0 ∷ []) early_is
 scenarios idle-listed = from early_is (delivers0 0 ∷ delivers0 1 ∷ []) (0 ∷ 0 ∷ []) idle_listed_is

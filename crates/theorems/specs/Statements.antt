@@ -1,7 +1,7 @@
 -- What is proved, in Theorems, Drains, Listings, Counts, Reasons, ReasonOrder, FirstCome, Handlings, TakenRequests, Preferences, WritersFirst, DeciderBit,
 -- Naming, Circling, Uncircled, GivingUp and Remains: of the numbers of answers, and of every list of calls on a fresh cluster, made with any preference n, as
 -- given: one above 1 is refused, and the cluster beside that prefers readers. Past the last, a lock reads as fresh and a client as idle.
-use Rattle.std.specs.Prelude.{◌≡◌, ◌∷◌, ◌≤◌, ◌<◌, ◌+◌, ◌-◌, ◌*◌, ◌++◌, ◌||◌, ◌&&◌}
+use Rattle.std.specs.Prelude.{◌≡◌, ◌∷◌, ◌≤◌, ◌<◌, ◌+◌, ◌-◌, ◌*◌, ◌++◌, ◌||◌, ◌&&◌, Option, Some, Ok, is_none}
 use Rattle.model.specs.Drain.{allowance, Quiescent, drain_calls, drain}
 use Rattle.model.specs.Trace.{is_accepted, grants_in, given_up_in}
 use Rattle.model.specs.Refusals.{first}
@@ -113,11 +113,11 @@ lines_of n (r ∷ rs) = line_of (n + 1) r ++ lines_of (n + 1) rs
 
 -- The line behind them, and how many records it stands for: one for a bad record, none where the transcript ends.
 abbrev pub last_line : Answer → ℕ → List ℕ
-last_line Accepted n = []
+last_line (Ok tt) n = []
 last_line (Refused r) n = refused_line n r
 
 abbrev pub last_records : Answer → ℕ
-last_records Accepted = 0
+last_records (Ok tt) = 0
 last_records (Refused r) = 1
 
 -- A transcript that passes the two tests: its run makes the calls of its records, each once and in order, and tells the last handling of theirs. The listing
@@ -274,25 +274,19 @@ abbrev pub Unqueued : LockState → LockState → ℕ → MachineId → ClientId
 Unqueued s t i k c = t ≡ with_agent s k (unqueuing (agent_on s k).agent c) (removed (packets s.wire) i)
 
 -- Its message, and the handling that is told: each has a cause of its own.
-pub data Handled (s t : LockState) (i : ℕ) (k : MachineId) : Message → Handling → Type 0 where
-  told_no_agent : {m : Message} → is_request m ≡ true → (agent_on s k).present ≡ false → WentBack s t i → Handled s t i k m NoAgent
+pub data Handled (s t : LockState) (i : ℕ) (k : MachineId) : Message → Option Handling → Type 0 where
+  told_no_agent : {m : Message} → is_request m ≡ true → (agent_on s k).present ≡ false → WentBack s t i → Handled s t i k m (Some NoAgent)
   not_holder : {c : ClientId} → (agent_on s k).present ≡ true → lists (agent_on s k) c ≡ false → queues (agent_on s k) c ≡ false → WentBack s t i
-      → Handled s t i k (Release c) NotHolder
-  acquire_taken : {c : ClientId} {m : Mode} {g : Bool} → (agent_on s k).present ≡ true → Stayed s t i → Handled s t i k (Acquire c m g) Taken
-  release_taken : {c : ClientId} → lists (agent_on s k) c ≡ true → Stayed s t i → Handled s t i k (Release c) Taken
-  release_unqueued : {c : ClientId} → lists (agent_on s k) c ≡ false → queues (agent_on s k) c ≡ true → Unqueued s t i k c → Handled s t i k (Release c) Taken
+      → Handled s t i k (Release c) (Some NotHolder)
+  acquire_taken : {c : ClientId} {m : Mode} {g : Bool} → (agent_on s k).present ≡ true → Stayed s t i → Handled s t i k (Acquire c m g) (Some Taken)
+  release_taken : {c : ClientId} → lists (agent_on s k) c ≡ true → Stayed s t i → Handled s t i k (Release c) (Some Taken)
+  release_unqueued : {c : ClientId} → lists (agent_on s k) c ≡ false → queues (agent_on s k) c ≡ true → Unqueued s t i k c → Handled s t i k (Release c) (Some Taken)
   no_request : {m : Message} → is_request m ≡ false → Handled s t i k m None
 
 -- The last of a list of handlings that is one, or none.
-abbrev pub is_none : Handling → Bool
-is_none None = true
-is_none NoAgent = false
-is_none NotHolder = false
-is_none Taken = false
-
-pub data Last : List Handling → Handling → Type 0 where
-  none_told : {hs : List Handling} → all is_none hs ≡ true → Last hs None
-  told_last : {hs : List Handling} (before : List Handling) {h : Handling} (behind : List Handling) → hs ≡ before ++ h ∷ behind → is_none h ≡ false
+pub data Last : List (Option Handling) → Option Handling → Type 0 where
+  none_told : {hs : List (Option Handling)} → all is_none hs ≡ true → Last hs None
+  told_last : {hs : List (Option Handling)} (before : List (Option Handling)) {h : Option Handling} (behind : List (Option Handling)) → hs ≡ before ++ h ∷ behind → is_none h ≡ false
       → all is_none behind ≡ true → Last hs h
 
 -- On any cluster, made by hand or not: what is told by a delivery to a machine, if it is accepted; and nothing by any other call, or a refused one. A drain
@@ -335,10 +329,10 @@ pub data TakenOff (s t : LockState) (i : ℕ) (k : MachineId) (c : ClientId) : T
 -- On any cluster, made by hand or not: that is so where a delivery to a machine tells *taken*.
 pub record TakenTells (x : Cluster) : Type 0 where
   pub acquires : (l : LockId) (i : ℕ) (k : MachineId) (c : ClientId) (m : Mode) (g : Bool) → (packet_at (lock_in x l) i).to ≡ ToMachine k
-      → (packet_at (lock_in x l) i).message ≡ Acquire c m g → (deliver x l i).handling ≡ Taken
+      → (packet_at (lock_in x l) i).message ≡ Acquire c m g → (deliver x l i).handling ≡ Some Taken
       → TakenIn (lock_in x l) (lock_in (deliver x l i).cluster l) k c m
   pub releases : (l : LockId) (i : ℕ) (k : MachineId) (c : ClientId) → (packet_at (lock_in x l) i).to ≡ ToMachine k
-      → (packet_at (lock_in x l) i).message ≡ Release c → (deliver x l i).handling ≡ Taken
+      → (packet_at (lock_in x l) i).message ≡ Release c → (deliver x l i).handling ≡ Some Taken
       → TakenOff (lock_in x l) (lock_in (deliver x l i).cluster l) i k c
 
 -- Request 5 of document 02: sites that prefer writers. Making a cluster: a preference is for readers or for writers, and it stays what it is.

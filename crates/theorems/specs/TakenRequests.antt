@@ -1,5 +1,5 @@
 -- What it says of a request that a machine has taken it: the client of an ACQUIRE is then listed or queued, that of a RELEASE struck off, on any cluster.
-use Rattle.std.specs.Prelude.{◌≡◌, ◌∷◌, ◌<◌, ◌⊎◌}
+use Rattle.std.specs.Prelude.{◌≡◌, ◌∷◌, ◌<◌, ◌⊎◌, Option, Some, Ok}
 use Rattle.std.proofs.Common.{append-nil, inl, inr}
 use Rattle.model.specs.WellFormed.{distinct, queue_formed, shaped, waiter_in_range, is_blank_waiter, message_formed, client_in_range}
 use Rattle.laws.specs.Tests.{pick_by}
@@ -91,13 +91,13 @@ module _ (n : ℕ) (s : LockState) (i : ℕ) (k : MachineId) (c : ClientId) (kk 
             (packets_of _)
 
 -- ---- what is told says of the agent
-abbrev is_taken : Handling → Bool
+abbrev is_taken : Option Handling → Bool
 is_taken None = false
-is_taken NoAgent = false
-is_taken NotHolder = false
-is_taken Taken = true
+is_taken (Some NoAgent) = false
+is_taken (Some NotHolder) = false
+is_taken (Some Taken) = true
 
-here_by : {s t : LockState} {i : ℕ} {k : MachineId} {m : Message} {h : Handling} → Handled s t i k m h → h ≡ Taken → (agent_on s k).present ≡ true
+here_by : {s t : LockState} {i : ℕ} {k : MachineId} {m : Message} {h : Option Handling} → Handled s t i k m h → h ≡ (Some Taken) → (agent_on s k).present ≡ true
 here_by (told_no_agent r e w) q = absurd (false≢true (ap is_taken q))
 here_by (not_holder e l u w) q = e
 here_by (acquire_taken e st) q = e
@@ -117,7 +117,7 @@ is_release (Grant c m) = false
 is_release (Release c) = true
 is_release Free = false
 
-released_by : {s t : LockState} {i : ℕ} {k : MachineId} {m : Message} {h : Handling} (c : ClientId) → Handled s t i k m h → m ≡ Release c → h ≡ Taken
+released_by : {s t : LockState} {i : ℕ} {k : MachineId} {m : Message} {h : Option Handling} (c : ClientId) → Handled s t i k m h → m ≡ Release c → h ≡ Some Taken
     → (lists (agent_on s k) c ≡ true) ⊎ ((lists (agent_on s k) c ≡ false) × ((queues (agent_on s k) c ≡ true) × Unqueued s t i k c))
 released_by c (told_no_agent r e w) z q = absurd (false≢true (ap is_taken q))
 released_by c (not_holder e l u w) z q = absurd (false≢true (ap is_taken q))
@@ -127,7 +127,7 @@ released_by c (release_unqueued {c = d} l u un) z q = let same : d ≡ c = ap (r
 released_by c (no_request r) z q = absurd (false≢true (ap is_taken q))
 
 -- ---- of a delivery
-module _ (x : Cluster) (l : LockId) (i : ℕ) (k : MachineId) (t : (packet_at (lock_in x l) i).to ≡ ToMachine k) (told : (deliver x l i).handling ≡ Taken) where
+module _ (x : Cluster) (l : LockId) (i : ℕ) (k : MachineId) (t : (packet_at (lock_in x l) i).to ≡ ToMachine k) (told : (deliver x l i).handling ≡ (Some Taken)) where
   abbrev s : LockState
   s = lock_in x l
 
@@ -140,7 +140,7 @@ module _ (x : Cluster) (l : LockId) (i : ℕ) (k : MachineId) (t : (packet_at (l
   accepted_is = go (deliver x l i).answer refl
     where
       go : (a : Answer) → (deliver x l i).answer ≡ a → (deliver x l i).answer ≡ Accepted
-      go Accepted e = e
+      go (Ok tt) e = e
       go (Refused r) e = absurd (false≢true (ap is_taken (sym ((tells_why x).refused (DeliverCall l i) r e) ∙ told)))
 
   handled : Handled s t' i k (packet_at s i).message (deliver x l i).handling

@@ -1,5 +1,5 @@
 -- The proofs of the statements: the numbers, then for every list of calls.
-use Rattle.std.specs.Prelude.{◌≡◌, ◌∷◌}
+use Rattle.std.specs.Prelude.{◌≡◌, ◌∷◌, Ok}
 use Rattle.laws.specs.CallSteps.{perform_elsewhere}
 use Rattle.theorems.specs.Names.{LockState, Cluster, Call, Answer, refl, sym, ap, ◌∙◌, true, List, [], ℕ, all, lock_in, fresh, answers_of}
 use Rattle.theorems.specs.Names.{after, perform, number, unseen, both, map, get_or, Accepted, Refused, Malformed, LockRange, MachineRange, TaskRange}
@@ -23,7 +23,7 @@ table =
     ∷ TranscriptLength ∷ NotQuiescent ∷ NotWaiting ∷ PreferenceRange ∷ CannotGiveUp ∷ CannotLose ∷ [])
 
 stands : (a : Answer) → get_or table (number a) Accepted ≡ a
-stands Accepted = refl
+stands (Ok tt) = refl
 stands (Refused Malformed) = refl
 stands (Refused LockRange) = refl
 stands (Refused MachineRange) = refl

@@ -1,6 +1,6 @@
 -- No answer goes by the count of an ACQUIRE or a RELEASE, on any cluster. A cluster is held against the one whose requests have not circled: no test and no
 -- rule tells them apart, and what they leave differs in such counts alone.
-use Rattle.std.specs.Prelude.{◌≡◌, ◌∷◌, ◌++◌, ◌+◌, ◌-◌, take, drop}
+use Rattle.std.specs.Prelude.{◌≡◌, ◌∷◌, ◌++◌, ◌+◌, ◌-◌, take, drop, Option, Ok}
 use Rattle.model.specs.Drain.{allowance, next_of, next_call, Next, none, some, drainage, Drainage, ending, after_one, drain_ended, drain_unless, drain}
 use Rattle.model.specs.Refusals.{◌when◌, first}
 use Rattle.model.specs.WellFormed.{shaped, packet_formed, is_blank_packet, wire_formed, lock_formed, well_formed}
@@ -252,7 +252,7 @@ module _ (x : Cluster) (l : LockId) (t u : Stepped) (e : step_but t ≡ step_but
   settled_alike : (a : Answer) → call_but (settled a x l t) ≡ call_but (settled a (uncircled_cluster x) l u)
   unfolding settled
   settled_alike (Refused r) = rw (cluster_twice x)
-  settled_alike Accepted =
+  settled_alike (Ok tt) =
       rw (
         ← set_mapped uncircled_lock x.locks l.0 t.state,
         ← set_mapped uncircled_lock (map uncircled_lock x.locks) l.0 u.state,
@@ -267,7 +267,7 @@ module _ (x : Cluster) (l : LockId) (t u : Stepped) (e : step_but t ≡ step_but
   unless_alike : (a : Answer) → call_but (unless a x l t) ≡ call_but (unless a (uncircled_cluster x) l u)
   unfolding unless
   unless_alike (Refused r) = rw (cluster_twice x)
-  unless_alike Accepted = settled_alike t.answer ∙ ap (λ (r : Stepped). call_but (settled r.answer (uncircled_cluster x) l u)) e
+  unless_alike (Ok tt) = settled_alike t.answer ∙ ap (λ (r : Stepped). call_but (settled r.answer (uncircled_cluster x) l u)) e
 
 lost_alike : (p : Packet) → can_be_lost (uncircled p) ≡ can_be_lost p
 unfolding can_be_lost
@@ -342,7 +342,7 @@ module _ (s : LockState) (c : ClientId) where
   because_uncircled : (a : Answer) → reason_unless a s c ≡ reason_unless a (uncircled_lock s) c
   unfolding reason_unless reason_in
   because_uncircled (Refused r) = refl
-  because_uncircled Accepted = rw (← reasons_uncircled, search_uncircled (reasons_in s))
+  because_uncircled (Ok tt) = rw (← reasons_uncircled, search_uncircled (reasons_in s))
 
 reason_uncircled : (l : LockId) (k : MachineId) (t : TaskId) (x : Cluster) → reason x l k t ≡ reason (uncircled_cluster x) l k t
 unfolding reason
@@ -398,19 +398,19 @@ drainage_alike (suc left) l x y h =
     (go (next_call l (lock_in y l)) (λ c. drainage_alike left l (perform c x).cluster (perform c y).cluster (left_alike c x y h)))
   where
     one : (c : Call) (a : Answer) → drainage_but (drainage left l (perform c x).cluster) ≡ drainage_but (drainage left l (perform c y).cluster)
-        → drainage_but (elim a [ Accepted ↦ after_one c (drainage left l (perform c x).cluster) | Refused r ↦ ending (Refused r) x ])
-        ≡ drainage_but (elim a [ Accepted ↦ after_one c (drainage left l (perform c y).cluster) | Refused r ↦ ending (Refused r) y ])
-    one c Accepted e = ap (after_one c) e
+        → drainage_but (elim a [ Ok tt ↦ after_one c (drainage left l (perform c x).cluster) | Refused r ↦ ending (Refused r) x ])
+        ≡ drainage_but (elim a [ Ok tt ↦ after_one c (drainage left l (perform c y).cluster) | Refused r ↦ ending (Refused r) y ])
+    one c (Ok tt) e = ap (after_one c) e
     one c (Refused r) e = rw h
 
     go : (n : Next) → ((c : Call) → drainage_but (drainage left l (perform c x).cluster) ≡ drainage_but (drainage left l (perform c y).cluster))
         → drainage_but (elim n [
           | none ↦ ending Accepted x
-          | some c ↦ elim (perform c x).answer [ Accepted ↦ after_one c (drainage left l (perform c x).cluster) | Refused r ↦ ending (Refused r) x ]
+          | some c ↦ elim (perform c x).answer [ Ok tt ↦ after_one c (drainage left l (perform c x).cluster) | Refused r ↦ ending (Refused r) x ]
         ])
         ≡ drainage_but (elim n [
           | none ↦ ending Accepted y
-          | some c ↦ elim (perform c y).answer [ Accepted ↦ after_one c (drainage left l (perform c y).cluster) | Refused r ↦ ending (Refused r) y ]
+          | some c ↦ elim (perform c y).answer [ Ok tt ↦ after_one c (drainage left l (perform c y).cluster) | Refused r ↦ ending (Refused r) y ]
         ])
     go none e = rw h
     go (some c) e = rw (answer_alike c x y h) (one c (perform c y).answer (e c))
@@ -431,7 +431,7 @@ drain_alike l x y h =
     calls = ap (λ (z : Drainage). z.calls) d
 
     end : (a : Answer) → drained_but (drain_ended a x (drainage allowance l x)) ≡ drained_but (drain_ended a y (drainage allowance l y))
-    end Accepted =
+    end (Ok tt) =
         rw (calls, run_told_alike (drainage allowance l y).calls x y h)
         (ap (λ (z : Drainage). record {
           answer = Accepted;
@@ -442,7 +442,7 @@ drain_alike l x y h =
     end (Refused r) = rw h
 
     tests : (a : Answer) → drained_but (drain_unless a l x) ≡ drained_but (drain_unless a l y)
-    tests Accepted =
+    tests (Ok tt) =
         end (drainage allowance l x).answer
         ∙ ap (λ (z : Drainage). drained_but (drain_ended z.answer y (drainage allowance l y))) d
     tests (Refused r) = rw h
@@ -451,7 +451,7 @@ drain_alike l x y h =
 abbrev replayed_but : Replayed → Replayed
 replayed_but r = record { answer = r.answer; records = r.records; handling = r.handling; cluster = uncircled_cluster r.cluster }
 
-replay_from_alike : (left : ℕ) (bytes : List ℕ) (i n : ℕ) (k : Handling) (x y : Cluster) → ButForCounts x y
+replay_from_alike : (left : ℕ) (bytes : List ℕ) (i n : ℕ) (k : Option Handling) (x y : Cluster) → ButForCounts x y
     → replayed_but (replay_from left bytes i n k x) ≡ replayed_but (replay_from left bytes i n k y)
 unfolding replay_from
 replay_from_alike zero bytes i n k x y h = rw h
@@ -480,7 +480,7 @@ unfolding replay replay_unless
 replay_alike bytes x y h = rw (tests_alike bytes x y h) (go (first (replay_tests y bytes)))
   where
     go : (a : Answer) → replayed_but (replay_unless a x bytes) ≡ replayed_but (replay_unless a y bytes)
-    go Accepted = replay_from_alike (length bytes + 1) bytes 0 0 None x y h
+    go (Ok tt) = replay_from_alike (length bytes + 1) bytes 0 0 None x y h
     go (Refused r) = rw h
 
 row_alike : (c : Call) (x y : Cluster) → ButForCounts x y → row_of c x ≡ row_of c y
@@ -516,7 +516,7 @@ unfolding listing lines_unless
 listing_alike bytes x y h = rw (tests_alike bytes x y h) (ap (λ (ls : List ℕ). header ++ ls) (go (first (replay_tests y bytes))))
   where
     go : (a : Answer) → lines_unless a x bytes ≡ lines_unless a y bytes
-    go Accepted = lines_alike (length bytes + 1) bytes 0 0 x y h
+    go (Ok tt) = lines_alike (length bytes + 1) bytes 0 0 x y h
     go (Refused r) = refl
 
 -- ---- the search for the packet that names a client
