@@ -8,13 +8,7 @@ use model::{Call, LockId, MachineId, Reading, TaskId};
 fn byte_at(bytes: &[u8], i: usize) -> u8
     ensures { result ≡ byte_at bytes.now i }
 {
-    if i < bytes.len() { bytes[i] } else { 0 }
-}
-
-fn widen(b: u8) -> usize
-    ensures { result ≡ b }
-{
-    b as usize
+    bytes.get(i).copied().unwrap_or(0)
 }
 
 // Two bytes, little-endian.
@@ -22,8 +16,8 @@ fn short_at(bytes: &[u8], i: usize) -> usize
     requires { i < length bytes.now }
     ensures { result ≡ short bytes.now i }
 {
-    let low = widen(byte_at(bytes, i));
-    let high = widen(byte_at(bytes, i + 1));
+    let low = usize::from(byte_at(bytes, i));
+    let high = usize::from(byte_at(bytes, i + 1));
     low + 256 * high
 }
 
