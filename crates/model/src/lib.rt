@@ -7,6 +7,7 @@ ghost use Rattle.model.specs.Lists.{pick};
 ghost use Rattle.model.specs.declared.Refusal.TheVariants.{ModeRange};
 ghost use Rattle.model.specs.States.{mode_number, mode_of};
 ghost use Rattle.model.specs.Refusals.{refusal_number, number};
+ghost use Rattle.model.specs.Listing.{kind_of};
 
 // The sizes of the cluster: specs/States.antt has the same numbers under the same names.
 pub const LOCKS: usize = 8;
@@ -291,6 +292,21 @@ pub struct Replayed {
     pub records: u16,
     pub handling: Option<Handling>,
     pub cluster: Cluster,
+}
+
+impl Call {
+    // The number of its record's kind.
+    pub fn kind(self) -> u8
+        ensures { result ≡ kind_of self }
+    {
+        match self {
+            Call::Acquire { .. } => 1,
+            Call::Release { .. } => 2,
+            Call::Deliver { .. } => 3,
+            Call::Lose { .. } => 6,
+            Call::GiveUp { .. } => 7,
+        }
+    }
 }
 
 impl Mode {
