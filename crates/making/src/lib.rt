@@ -6,7 +6,7 @@ ghost use Rattle.model.specs.States.{wire_of, fresh_lock, fresh_with};
 ghost use Rattle.model.specs.Calls.{refusing, fresh};
 
 use model::{
-    Answer, CLIENTS, ClientState, Cluster, Handling, LOCKS, LockState, MACHINES, Outcome,
+    CLIENTS, ClientState, Cluster, LOCKS, LockState, MACHINES, Outcome,
     PREFERENCES, Refusal, Status, WIRE_CAPACITY, Wire,
 };
 use parts::blank::{blank_packet, no_agent, unowned};
@@ -56,8 +56,8 @@ pub fn refuse_call(n: Refusal, x: Cluster) -> Outcome
     ensures { result ≡ refusing n x }
 {
     Outcome {
-        answer: Answer::Refused(n),
-        handling: Handling::None,
+        answer: Err(n),
+        handling: None,
         cluster: x,
     }
 }
@@ -69,8 +69,8 @@ pub fn fresh(preference: u8) -> Outcome
 {
     if preference < PREFERENCES {
         Outcome {
-            answer: Answer::Accepted,
-            handling: Handling::None,
+            answer: Ok(()),
+            handling: None,
             cluster: fresh_with(preference),
         }
     } else {

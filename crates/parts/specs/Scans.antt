@@ -2,7 +2,7 @@
 use Rattle.std.specs.Prelude.{◌≡◌, refl, Bool, true, false, ◌&&◌, List, [], ◌∷◌, ℕ, ◌+◌, ◌<◌, ◌≤◌, min, length, take, drop, get_or}
 use Rattle.std.proofs.Common.{sym, ◌∙◌, add-one, arith, length-take, drop_of_length-le, drop-cons, get_or-take, length-take-le, take-suc, take_all}
 use Rattle.std.proofs.Math.Bool.{and_assoc, and-true}
-use Rattle.model.specs.declared.{Found.TheVariants.{Nowhere, At}}
+use Rattle.model.specs.Names.{Nowhere, At}
 use Rattle.model.specs.Lists.{any, all, IsFirst}
 use Rattle.laws.specs.Lists.{none_end, at_get_or}
 

@@ -9,7 +9,7 @@ ghost use Rattle.parts.specs.Sought.{is_sought};
 
 use crate::used::used;
 use crate::wire::message_names;
-use model::{ClientId, Found, Message, Packet, WIRE_CAPACITY, Wire};
+use model::{ClientId, Message, Packet, WIRE_CAPACITY, Wire};
 
 // Which packet of the client: any that names it, its request, its grant, its grant that was rejected.
 #[derive(Clone, Copy, Drop)]
@@ -76,7 +76,7 @@ fn is_sought(k: Sought, c: ClientId, p: Packet) -> bool
 }
 
 // The first of the packets in use that is sought.
-pub fn first_packet(a: [Packet; WIRE_CAPACITY], len: u8, k: Sought, c: ClientId) -> Found
+pub fn first_packet(a: [Packet; WIRE_CAPACITY], len: u8, k: Sought, c: ClientId) -> Option<u8>
     ensures { IsFirst (is_sought k c) (take len a) result }
 {
     let n = used(len, WIRE_CAPACITY);
@@ -85,17 +85,17 @@ pub fn first_packet(a: [Packet; WIRE_CAPACITY], len: u8, k: Sought, c: ClientId)
     while j < n {
         let p = a[j];
         if is_sought(k, c, p) {
-            return Found::At(index);
+            return Some(index);
         }
         index += 1;
         j += 1;
     }
-    Found::Nowhere
+    None
 }
 
 // The first packet of the wire that names the client.
 #[tactic(auto, unfolding(model::specs::States::packets))]
-pub fn first_naming(w: Wire, c: ClientId) -> Found
+pub fn first_naming(w: Wire, c: ClientId) -> Option<u8>
     ensures { IsFirst (names c) (packets w) result }
 {
     let a = w.slots;

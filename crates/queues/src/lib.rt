@@ -10,7 +10,7 @@ ghost use Rattle.model.specs.AtMachine.{taken_off};
 ghost use Rattle.laws.specs.Shapes.{CanonicalQueue};
 ghost use Rattle.parts.specs.Arrays.{cut_used, slid};
 
-use model::{Agent, ClientId, Found, QUEUE_CAPACITY, Queue, Waiter};
+use model::{Agent, ClientId, QUEUE_CAPACITY, Queue, Waiter};
 use parts::blank::blank_waiter;
 use parts::holders::is_shared;
 use parts::used::used;
@@ -114,7 +114,7 @@ pub fn queued(a: Agent, c: ClientId) -> bool
 }
 
 // Where it stands among the waiters in use.
-fn place_in(a: [Waiter; QUEUE_CAPACITY], len: u8, c: ClientId) -> Found
+fn place_in(a: [Waiter; QUEUE_CAPACITY], len: u8, c: ClientId) -> Option<u8>
     ensures { IsFirst (is_client c) (take len a) result }
 {
     let n = used(len, QUEUE_CAPACITY);
@@ -123,12 +123,12 @@ fn place_in(a: [Waiter; QUEUE_CAPACITY], len: u8, c: ClientId) -> Found
     while j < n {
         let w = a[j];
         if w.client.0 == c.0 {
-            return Found::At(index);
+            return Some(index);
         }
         index += 1;
         j += 1;
     }
-    Found::Nowhere
+    None
 }
 
 // The queue without the client.
@@ -139,8 +139,8 @@ pub fn taken_off(q: Queue, c: ClientId) -> Queue
     let a = q.slots;
     let n = q.len;
     match place_in(a, n, c) {
-        Found::Nowhere => q,
-        Found::At(i) => without_at(q, i),
+        None => q,
+        Some(i) => without_at(q, i),
     }
 }
 

@@ -5,10 +5,9 @@ use mathlib.Core.List.{List, [], ◌∷◌, ◌++◌, map}
 use Rattle.std.proofs.Math.Numerals.{add-one}
 use Rattle.std.proofs.Common.{arith}
 use Rattle.model.specs.declared.{ClientId.ClientId, Waiter.Waiter, AgentSlot.AgentSlot, Packet.Packet, LockState.LockState}
-use Rattle.model.specs.declared.{Found.Found, Found.TheVariants.{Nowhere, At}}
+use Rattle.model.specs.Names.{Found, Nowhere, At, ReasonAnswer, Because, NoReason}
 use Rattle.model.specs.declared.{Refusal.TheVariants.{NotWaiting}, Reason.Reason}
 use Rattle.model.specs.declared.{Reason.TheVariants.{Requested, Granted, Rejected, Queued, Carried, GrantLost}}
-use Rattle.model.specs.declared.{ReasonAnswer.ReasonAnswer, ReasonAnswer.TheVariants.{Because, Refused as NoReason}}
 use Rattle.model.specs.Lists.{pick, is_at, indices}
 use Rattle.model.specs.States.{waiters, packets, note_of}
 use Rattle.model.specs.WellFormed.{is_client}

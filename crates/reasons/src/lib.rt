@@ -9,14 +9,14 @@ ghost use Rattle.model.specs.Reasons.{first_true, reasons_in, reason_in};
 ghost use Rattle.reasons.specs.Searching.{ahead_in, seek_queues, on_machine, itself, inside, queue_reason, lost_reason, other_reason};
 
 use model::{
-    AgentSlot, ClientId, Found, LockState, MACHINES, MachineId, Packet, QUEUE_CAPACITY, Reason,
+    AgentSlot, ClientId, LockState, MACHINES, MachineId, Packet, QUEUE_CAPACITY, Reason,
     ReasonAnswer, Refusal, WIRE_CAPACITY, Waiter,
 };
 use parts::search::{Sought, first_packet};
 use parts::state::{is_waiting, note_at, status_at};
 use parts::used::used;
 
-fn first_waiter(a: [Waiter; QUEUE_CAPACITY], len: u8, c: ClientId) -> Found
+fn first_waiter(a: [Waiter; QUEUE_CAPACITY], len: u8, c: ClientId) -> Option<u8>
     ensures { IsFirst (is_client c) (take len a) result }
 {
     let n = used(len, QUEUE_CAPACITY);
@@ -25,16 +25,16 @@ fn first_waiter(a: [Waiter; QUEUE_CAPACITY], len: u8, c: ClientId) -> Found
     while j < n {
         let w = a[j];
         if w.client.0 == c.0 {
-            return Found::At(ahead);
+            return Some(ahead);
         }
         ahead += 1;
         j += 1;
     }
-    Found::Nowhere
+    None
 }
 
 // How many are ahead of the client, where an agent is there and has it in its queue.
-fn ahead_in(c: ClientId, x: AgentSlot) -> Found
+fn ahead_in(c: ClientId, x: AgentSlot) -> Option<u8>
     ensures { result ≡ ahead_in c x }
 {
     if x.present {
@@ -43,7 +43,7 @@ fn ahead_in(c: ClientId, x: AgentSlot) -> Found
         let slots = q.slots;
         first_waiter(slots, q.len, c)
     } else {
-        Found::Nowhere
+        None
     }
 }
 
@@ -55,17 +55,17 @@ fn on_machines(a: [AgentSlot; MACHINES], c: ClientId) -> ReasonAnswer
         let x = a[j];
         let f = ahead_in(c, x);
         match f {
-            Found::At(ahead) => {
-                return ReasonAnswer::Because(Reason::Queued {
+            Some(ahead) => {
+                return Ok(Reason::Queued {
                     machine: MachineId(j as u8),
                     ahead,
                 });
             }
-            Found::Nowhere => {}
+            None => {}
         }
         j += 1;
     }
-    ReasonAnswer::Refused(Refusal::NotWaiting)
+    Err(Refusal::NotWaiting)
 }
 
 fn in_packets(a: [Packet; WIRE_CAPACITY], len: u8, c: ClientId) -> ReasonAnswer
@@ -78,17 +78,17 @@ fn in_packets(a: [Packet; WIRE_CAPACITY], len: u8, c: ClientId) -> ReasonAnswer
         let x = p.carried;
         let f = ahead_in(c, x);
         match f {
-            Found::At(ahead) => {
-                return ReasonAnswer::Because(Reason::Carried {
+            Some(ahead) => {
+                return Ok(Reason::Carried {
                     index: j as u8,
                     ahead,
                 });
             }
-            Found::Nowhere => {}
+            None => {}
         }
         j += 1;
     }
-    ReasonAnswer::Refused(Refusal::NotWaiting)
+    Err(Refusal::NotWaiting)
 }
 
 // Agents on machines come first, then those inside packets.
@@ -101,8 +101,8 @@ fn first_in_queues(s: LockState, c: ClientId) -> ReasonAnswer
     let a = w.slots;
     let queued = on_machines(agents, c);
     match queued {
-        ReasonAnswer::Because(r) => ReasonAnswer::Because(r),
-        ReasonAnswer::Refused(_) => in_packets(a, w.len, c),
+        Ok(r) => Ok(r),
+        Err(_) => in_packets(a, w.len, c),
     }
 }
 
@@ -111,9 +111,9 @@ fn grant_lost(b: bool) -> ReasonAnswer
     ensures { result ≡ lost_reason b }
 {
     if b {
-        ReasonAnswer::Because(Reason::GrantLost)
+        Ok(Reason::GrantLost)
     } else {
-        ReasonAnswer::Refused(Refusal::NotWaiting)
+        Err(Refusal::NotWaiting)
     }
 }
 
@@ -124,8 +124,8 @@ fn first_in_state(s: LockState, c: ClientId) -> ReasonAnswer
     let clients = s.clients;
     let queued = first_in_queues(s, c);
     match queued {
-        ReasonAnswer::Because(r) => ReasonAnswer::Because(r),
-        ReasonAnswer::Refused(_) => grant_lost(note_at(clients, c)),
+        Ok(r) => Ok(r),
+        Err(_) => grant_lost(note_at(clients, c)),
     }
 }
 
@@ -137,22 +137,22 @@ fn first_true(s: LockState, c: ClientId) -> ReasonAnswer
     let a = w.slots;
     let asked = first_packet(a, w.len, Sought::Request, c);
     match asked {
-        Found::At(index) => {
-            return ReasonAnswer::Because(Reason::Requested { index });
+        Some(index) => {
+            return Ok(Reason::Requested { index });
         }
-        Found::Nowhere => {}
+        None => {}
     }
     let granted = first_packet(a, w.len, Sought::Grant, c);
     match granted {
-        Found::At(index) => {
-            return ReasonAnswer::Because(Reason::Granted { index });
+        Some(index) => {
+            return Ok(Reason::Granted { index });
         }
-        Found::Nowhere => {}
+        None => {}
     }
     let rejected = first_packet(a, w.len, Sought::RejectedGrant, c);
     match rejected {
-        Found::At(index) => ReasonAnswer::Because(Reason::Rejected { index }),
-        Found::Nowhere => first_in_state(s, c),
+        Some(index) => Ok(Reason::Rejected { index }),
+        None => first_in_state(s, c),
     }
 }
 
@@ -165,6 +165,6 @@ pub fn reason_in(s: LockState, c: ClientId) -> ReasonAnswer
     if is_waiting(status_at(clients, c)) {
         first_true(s, c)
     } else {
-        ReasonAnswer::Refused(Refusal::NotWaiting)
+        Err(Refusal::NotWaiting)
     }
 }

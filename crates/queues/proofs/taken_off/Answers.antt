@@ -11,15 +11,15 @@ pub without_at-requires : goal.without_at-requires
 unfolding waiters
 without_at-requires c =
     let q = c.args.q in
-    (c.requires, omega (arith, first_below (is_client c.args.c) (waiters q) _ c.in-At.ensures, length_waiters q c.requires))
+    (c.requires, omega (arith, first_below (is_client c.args.c) (waiters q) _ c.in-Some.ensures, length_waiters q c.requires))
 
-pub returns-in-Nowhere : goal.returns-in-Nowhere
+pub returns-in-None : goal.returns-in-None
 unfolding waiters
-returns-in-Nowhere c =
+returns-in-None c =
     let q = c.args.q in
-    queue_whole q c.requires ∙ sym (ap (λ (ws : List Waiter). queue_of ws) (off_none c.args.c (waiters q) c.in-Nowhere.ensures))
+    queue_whole q c.requires ∙ sym (ap (λ (ws : List Waiter). queue_of ws) (off_none c.args.c (waiters q) c.in-None.ensures))
 
-pub returns-in-At : goal.returns-in-At
+pub returns-in-Some : goal.returns-in-Some
 unfolding waiters
-returns-in-At c =
-    c.without_at.ensures ∙ sym (ap (λ (ws : List Waiter). queue_of ws) (off_first c.args.c (waiters c.args.q) _ c.in-At.ensures))
+returns-in-Some c =
+    c.without_at.ensures ∙ sym (ap (λ (ws : List Waiter). queue_of ws) (off_first c.args.c (waiters c.args.q) _ c.in-Some.ensures))
