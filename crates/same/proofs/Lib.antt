@@ -1,2 +1,2 @@
 -- What the proofs cite.
-pub mod CodesLemmas
+pub mod Equality
