@@ -1,3 +1,3 @@
--- What the digest's contracts cite: the bytes and their digest; and the law of its loops.
+-- What the digest's contracts cite: the bytes and their digest; and the law of its parts.
 pub mod Bytes
-pub mod Loops
+pub mod Parts

@@ -1,48 +1,69 @@
 // The digest of docs/random-runs.md: 'Numbers and digest' and 'The bytes of a cluster'. Each function goes on from h over the bytes of its part.
 #![tactic(auto)]
 
-ghost use Rattle.std.specs.Prelude.{◌≡◌, [], ◌∷◌, take};
-ghost use Rattle.model.specs.declared.Status.TheVariants.{Holding};
+ghost use Rattle.std.specs.Prelude.{◌≡◌, List, ℕ, [], ◌∷◌, take};
 ghost use Rattle.model.specs.declared.ReasonAnswer.TheVariants.{Because};
 ghost use Rattle.model.specs.States.{mode_number};
 ghost use Rattle.model.specs.Reasons.{reason_number, reason_values};
 ghost use Rattle.model.specs.History.{message_numbers};
-ghost use Rattle.digest.specs.Bytes.{digest_of, each, flag_number, flag_bytes, owner_bytes, decider_bytes, waiter_bytes, queue_bytes, agent_bytes, slot_bytes};
+ghost use Rattle.digest.specs.Bytes.{digest_of, each, flag_bytes, owner_bytes, decider_bytes, waiter_bytes, queue_bytes, agent_bytes, slot_bytes};
 ghost use Rattle.digest.specs.Bytes.{status_number, client_bytes, address_bytes, packet_bytes, wire_bytes, lock_bytes, cluster_bytes};
 ghost use Rattle.digest.specs.Bytes.{handling_number, found_bytes};
 
 use model::{
-    Address, Agent, AgentSlot, CLIENTS, ClientState, Cluster, Decider, Found, Handling, LOCKS,
-    LockState, MACHINES, Message, Mode, Owner, Packet, QUEUE_CAPACITY, Queue, Reason, ReasonAnswer,
-    Status, WIRE_CAPACITY, Waiter, Wire,
+    Address, Agent, AgentSlot, ClientState, Cluster, Decider, Found, Handling, LockState, Message,
+    Mode, Owner, Packet, Queue, Reason, ReasonAnswer, Status, Waiter, Wire,
 };
 use parts::used::used;
 
-#[tactic(auto, unfolding(crate::specs::Bytes::digest_of))]
-pub fn byte(h: u32, b: u8) -> u32
-    ensures { result ≡ digest_of h (b ∷ []) }
-{
-    ((h as u64 * 65599 + b as u64 + 1) % 4294967291) as u32
+// A value that has bytes, and how a digest goes on over them.
+trait Digest {
+    ghost bytes: { Self → List ℕ };
+
+    fn digest(&self, h: u32) -> u32
+        ensures { result ≡ digest_of h (bytes self.now) };
 }
 
-#[tactic(auto, using(crate::specs::Loops::parts))]
-fn two(h: u32, a: u8, b: u8) -> u32
-    ensures { result ≡ digest_of h (a ∷ b ∷ []) }
-{
-    byte(byte(h, a), b)
+// ---- bytes, flags, and rows of them
+impl Digest for u8 {
+    ghost bytes = { λ b. b ∷ [] };
+
+    #[tactic(auto, unfolding(crate::specs::Bytes::digest_of))]
+    fn digest(&self, h: u32) -> u32 {
+        ((h as u64 * 65599 + *self as u64 + 1) % 4294967291) as u32
+    }
 }
 
-#[tactic(auto, using(crate::specs::Loops::parts))]
-fn four(h: u32, a: u8, b: u8, c: u8, d: u8) -> u32
-    ensures { result ≡ digest_of h (a ∷ b ∷ c ∷ d ∷ []) }
-{
-    two(two(h, a, b), c, d)
+impl Digest for bool {
+    ghost bytes = { flag_bytes };
+
+    fn digest(&self, h: u32) -> u32 {
+        u8::from(*self).digest(h)
+    }
 }
 
-fn flag_number(b: bool) -> u8
-    ensures { result ≡ flag_number b }
+// One after the other.
+fn all<T: Digest>(xs: &[T], h: u32) -> u32
+    ensures { result ≡ digest_of h (each T.bytes xs.now) }
 {
-    if b { 1 } else { 0 }
+    xs.iter().fold(h, |g, x| x.digest(g))
+}
+
+// A length, whatever it claims, and the slots that it counts.
+#[tactic(auto, using(crate::specs::Parts::parts, std::proofs::lemmas::List::take_min))]
+fn counted<T: Digest>(len: u8, slots: &[T], h: u32) -> u32
+    ensures { result ≡ digest_of h (len ∷ each T.bytes (take len slots.now)) }
+{
+    let h = len.digest(h);
+    all(&slots[..used(len, slots.len())], h)
+}
+
+impl<T: Digest, const N: usize> Digest for [T; N] {
+    ghost bytes = { each T.bytes };
+
+    fn digest(&self, h: u32) -> u32 {
+        all(self, h)
+    }
 }
 
 fn mode_number(m: Mode) -> u8
@@ -55,258 +76,204 @@ fn mode_number(m: Mode) -> u8
 }
 
 // ---- item 1
-fn owner(h: u32, o: Owner) -> u32
-    ensures { result ≡ digest_of h (owner_bytes o) }
-{
-    match o {
-        Owner::Free => two(h, 0, 0),
-        Owner::Owned(m, k) => two(h, mode_number(m), k.0),
+impl Digest for Owner {
+    ghost bytes = { owner_bytes };
+
+    #[tactic(auto, unfolding(crate::specs::Bytes::each))]
+    fn digest(&self, h: u32) -> u32 {
+        match *self {
+            Owner::Free => [0, 0].digest(h),
+            Owner::Owned(m, k) => [mode_number(m), k.0].digest(h),
+        }
     }
 }
 
-#[tactic(auto, using(crate::specs::Loops::parts), unfolding(crate::specs::Bytes::decider_bytes))]
-fn decider(h: u32, d: Decider) -> u32
-    ensures { result ≡ digest_of h (decider_bytes d) }
-{
-    let o = d.owner;
-    two(owner(h, o), d.incarnation, flag_number(d.writer))
+impl Digest for Decider {
+    ghost bytes = { decider_bytes };
+
+    #[tactic(auto, using(crate::specs::Parts::parts), unfolding(crate::specs::Bytes::each, crate::specs::Bytes::decider_bytes))]
+    fn digest(&self, h: u32) -> u32 {
+        let h = self.owner.digest(h);
+        [self.incarnation, u8::from(self.writer)].digest(h)
+    }
 }
 
 // ---- item 2
-fn holders(h: u32, a: [bool; CLIENTS]) -> u32
-    ensures { result ≡ digest_of h (each flag_bytes a) }
-{
-    let mut g = h;
-    let mut j: usize = 0;
-    while j < CLIENTS {
-        g = byte(g, flag_number(a[j]));
-        j += 1;
-    }
-    g
-}
+impl Digest for Waiter {
+    ghost bytes = { waiter_bytes };
 
-#[tactic(auto, unfolding(crate::specs::Bytes::waiter_bytes))]
-fn waiter(h: u32, w: Waiter) -> u32
-    ensures { result ≡ digest_of h (waiter_bytes w) }
-{
-    let c = w.client;
-    let m = w.mode;
-    two(h, c.0, mode_number(m))
-}
-
-fn first_waiters(h: u32, a: [Waiter; QUEUE_CAPACITY], n: u8) -> u32
-    ensures { result ≡ digest_of h (each waiter_bytes (take n a)) }
-{
-    let m = used(n, QUEUE_CAPACITY);
-    let mut g = h;
-    let mut j: usize = 0;
-    while j < m {
-        let w = a[j];
-        g = waiter(g, w);
-        j += 1;
-    }
-    g
-}
-
-#[tactic(auto, using(crate::specs::Loops::parts), unfolding(crate::specs::Bytes::queue_bytes, model::specs::States::waiters))]
-fn queue(h: u32, q: Queue) -> u32
-    ensures { result ≡ digest_of h (queue_bytes q) }
-{
-    let n = q.len;
-    let a = q.slots;
-    first_waiters(byte(h, n), a, n)
-}
-
-#[tactic(auto, using(crate::specs::Loops::parts), unfolding(crate::specs::Bytes::agent_bytes))]
-fn agent(h: u32, a: Agent) -> u32
-    ensures { result ≡ digest_of h (agent_bytes a) }
-{
-    let m = a.mode;
-    let s = a.holders;
-    let q = a.queue;
-    queue(holders(two(h, mode_number(m), a.incarnation), s), q)
-}
-
-#[tactic(auto, using(crate::specs::Loops::parts), unfolding(crate::specs::Bytes::slot_bytes))]
-fn agent_slot(h: u32, x: AgentSlot) -> u32
-    ensures { result ≡ digest_of h (slot_bytes x) }
-{
-    if x.present {
-        let a = x.agent;
-        agent(byte(h, 1), a)
-    } else {
-        byte(h, 0)
+    #[tactic(auto, unfolding(crate::specs::Bytes::each, crate::specs::Bytes::waiter_bytes))]
+    fn digest(&self, h: u32) -> u32 {
+        [self.client.0, mode_number(self.mode)].digest(h)
     }
 }
 
-fn agents(h: u32, a: [AgentSlot; MACHINES]) -> u32
-    ensures { result ≡ digest_of h (each slot_bytes a) }
-{
-    let mut g = h;
-    let mut j: usize = 0;
-    while j < MACHINES {
-        let x = a[j];
-        g = agent_slot(g, x);
-        j += 1;
+impl Digest for Queue {
+    ghost bytes = { queue_bytes };
+
+    #[tactic(auto, unfolding(crate::specs::Bytes::queue_bytes, model::specs::States::waiters))]
+    fn digest(&self, h: u32) -> u32 {
+        counted(self.len, &self.slots, h)
     }
-    g
+}
+
+impl Digest for Agent {
+    ghost bytes = { agent_bytes };
+
+    #[tactic(auto, using(crate::specs::Parts::parts), unfolding(crate::specs::Bytes::each, crate::specs::Bytes::agent_bytes))]
+    fn digest(&self, h: u32) -> u32 {
+        let h = [mode_number(self.mode), self.incarnation].digest(h);
+        let h = self.holders.digest(h);
+        self.queue.digest(h)
+    }
+}
+
+impl Digest for AgentSlot {
+    ghost bytes = { slot_bytes };
+
+    #[tactic(auto, using(crate::specs::Parts::parts), unfolding(crate::specs::Bytes::slot_bytes))]
+    fn digest(&self, h: u32) -> u32 {
+        let h = self.present.digest(h);
+        if self.present {
+            self.agent.digest(h)
+        } else {
+            h
+        }
+    }
 }
 
 // ---- item 3
-fn holding_number(m: Mode) -> u8
-    ensures { result ≡ status_number (Holding m) }
-{
-    match m {
-        Mode::Exclusive => 6,
-        Mode::Shared => 7,
-    }
-}
-
 fn status_number(s: Status) -> u8
     ensures { result ≡ status_number s }
 {
     match s {
         Status::Idle => 0,
         Status::Waiting(m) => mode_number(m),
-        Status::Holding(m) => holding_number(m),
+        Status::Holding(Mode::Exclusive) => 6,
+        Status::Holding(Mode::Shared) => 7,
     }
 }
 
-#[tactic(auto, unfolding(crate::specs::Bytes::client_bytes))]
-fn client(h: u32, c: ClientState) -> u32
-    ensures { result ≡ digest_of h (client_bytes c) }
-{
-    let s = c.status;
-    two(h, status_number(s), flag_number(c.lost))
-}
+impl Digest for ClientState {
+    ghost bytes = { client_bytes };
 
-fn clients(h: u32, a: [ClientState; CLIENTS]) -> u32
-    ensures { result ≡ digest_of h (each client_bytes a) }
-{
-    let mut g = h;
-    let mut j: usize = 0;
-    while j < CLIENTS {
-        let c = a[j];
-        g = client(g, c);
-        j += 1;
+    #[tactic(auto, unfolding(crate::specs::Bytes::each, crate::specs::Bytes::client_bytes))]
+    fn digest(&self, h: u32) -> u32 {
+        [status_number(self.status), u8::from(self.lost)].digest(h)
     }
-    g
 }
 
 // ---- item 4
-fn message(h: u32, m: Message) -> u32
-    ensures { result ≡ digest_of h (message_numbers m) }
-{
-    match m {
-        Message::Acquire {
-            client,
-            mode,
-            granted,
-        } => four(h, 1, client.0, mode_number(mode), flag_number(granted)),
-        Message::Grant { client, mode } => four(h, 2, client.0, mode_number(mode), 0),
-        Message::Release { client } => four(h, 3, client.0, 0, 0),
-        Message::Free => four(h, 4, 0, 0, 0),
+impl Digest for Message {
+    ghost bytes = { message_numbers };
+
+    #[tactic(auto, unfolding(crate::specs::Bytes::each))]
+    fn digest(&self, h: u32) -> u32 {
+        match *self {
+            Message::Acquire {
+                client,
+                mode,
+                granted,
+            } => [1, client.0, mode_number(mode), u8::from(granted)].digest(h),
+            Message::Grant { client, mode } => [2, client.0, mode_number(mode), 0].digest(h),
+            Message::Release { client } => [3, client.0, 0, 0].digest(h),
+            Message::Free => [4, 0, 0, 0].digest(h),
+        }
     }
 }
 
-fn address(h: u32, t: Address) -> u32
-    ensures { result ≡ digest_of h (address_bytes t) }
-{
-    match t {
-        Address::Decider => two(h, 0, 0),
-        Address::Machine(k) => two(h, 1, k.0),
+impl Digest for Address {
+    ghost bytes = { address_bytes };
+
+    #[tactic(auto, unfolding(crate::specs::Bytes::each))]
+    fn digest(&self, h: u32) -> u32 {
+        match *self {
+            Address::Decider => [0, 0].digest(h),
+            Address::Machine(k) => [1, k.0].digest(h),
+        }
     }
 }
 
-#[tactic(auto, using(crate::specs::Loops::parts), unfolding(crate::specs::Bytes::packet_bytes))]
-fn packet(h: u32, p: Packet) -> u32
-    ensures { result ≡ digest_of h (packet_bytes p) }
-{
-    let m = p.message;
-    let t = p.to;
-    let x = p.carried;
-    let g = address(message(h, m), t);
-    agent_slot(two(g, flag_number(p.rejected), p.circled), x)
-}
+impl Digest for Packet {
+    ghost bytes = { packet_bytes };
 
-fn first_packets(h: u32, a: [Packet; WIRE_CAPACITY], n: u8) -> u32
-    ensures { result ≡ digest_of h (each packet_bytes (take n a)) }
-{
-    let m = used(n, WIRE_CAPACITY);
-    let mut g = h;
-    let mut j: usize = 0;
-    while j < m {
-        let p = a[j];
-        g = packet(g, p);
-        j += 1;
+    #[tactic(auto, using(crate::specs::Parts::parts), unfolding(crate::specs::Bytes::each, crate::specs::Bytes::packet_bytes))]
+    fn digest(&self, h: u32) -> u32 {
+        let h = self.message.digest(h);
+        let h = self.to.digest(h);
+        let h = [u8::from(self.rejected), self.circled].digest(h);
+        self.carried.digest(h)
     }
-    g
 }
 
-#[tactic(auto, using(crate::specs::Loops::parts), unfolding(crate::specs::Bytes::wire_bytes, model::specs::States::packets))]
-fn wire(h: u32, w: Wire) -> u32
-    ensures { result ≡ digest_of h (wire_bytes w) }
-{
-    let n = w.len;
-    let a = w.slots;
-    first_packets(byte(h, n), a, n)
-}
+impl Digest for Wire {
+    ghost bytes = { wire_bytes };
 
-// ---- locks
-#[tactic(auto, using(crate::specs::Loops::parts), unfolding(crate::specs::Bytes::lock_bytes))]
-fn lock_state(h: u32, s: LockState) -> u32
-    ensures { result ≡ digest_of h (lock_bytes s) }
-{
-    let d = s.decider;
-    let a = s.agents;
-    let c = s.clients;
-    let w = s.wire;
-    wire(clients(agents(decider(h, d), a), c), w)
-}
-
-fn locks(h: u32, a: [LockState; LOCKS]) -> u32
-    ensures { result ≡ digest_of h (each lock_bytes a) }
-{
-    let mut g = h;
-    let mut j: usize = 0;
-    while j < LOCKS {
-        let s = a[j];
-        g = lock_state(g, s);
-        j += 1;
+    #[tactic(auto, unfolding(crate::specs::Bytes::wire_bytes, model::specs::States::packets))]
+    fn digest(&self, h: u32) -> u32 {
+        counted(self.len, &self.slots, h)
     }
-    g
 }
 
-#[tactic(auto, using(crate::specs::Loops::parts), unfolding(crate::specs::Bytes::cluster_bytes))]
+// ---- a lock and the cluster
+impl Digest for LockState {
+    ghost bytes = { lock_bytes };
+
+    #[tactic(auto, using(crate::specs::Parts::parts), unfolding(crate::specs::Bytes::lock_bytes))]
+    fn digest(&self, h: u32) -> u32 {
+        let h = self.decider.digest(h);
+        let h = self.agents.digest(h);
+        let h = self.clients.digest(h);
+        self.wire.digest(h)
+    }
+}
+
+impl Digest for Cluster {
+    ghost bytes = { cluster_bytes };
+
+    #[tactic(auto, using(crate::specs::Parts::parts), unfolding(crate::specs::Bytes::cluster_bytes))]
+    fn digest(&self, h: u32) -> u32 {
+        let h = self.preference.digest(h);
+        self.locks.digest(h)
+    }
+}
+
+pub fn byte(h: u32, b: u8) -> u32
+    ensures { result ≡ digest_of h (b ∷ []) }
+{
+    b.digest(h)
+}
+
 pub fn cluster(h: u32, x: Cluster) -> u32
     ensures { result ≡ digest_of h (cluster_bytes x) }
 {
-    let a = x.locks;
-    locks(byte(h, x.preference), a)
+    x.digest(h)
 }
 
 // ---- what goes into the digest of a step: the answer to the question for a reason
-#[tactic(auto, using(crate::specs::Loops::parts))]
-fn because(h: u32, r: Reason) -> u32
-    ensures { result ≡ digest_of h (reason_values (Because r)) }
-{
-    match r {
-        Reason::Requested { index } => two(h, 1, index),
-        Reason::Granted { index } => two(h, 2, index),
-        Reason::Rejected { index } => two(h, 3, index),
-        Reason::Queued { machine, ahead } => byte(two(h, 4, machine.0), ahead),
-        Reason::Carried { index, ahead } => byte(two(h, 5, index), ahead),
-        Reason::GrantLost => byte(h, 6),
+impl Digest for Reason {
+    ghost bytes = { λ r. reason_values (Because r) };
+
+    #[tactic(auto, unfolding(crate::specs::Bytes::each))]
+    fn digest(&self, h: u32) -> u32 {
+        match *self {
+            Reason::Requested { index } => [1, index].digest(h),
+            Reason::Granted { index } => [2, index].digest(h),
+            Reason::Rejected { index } => [3, index].digest(h),
+            Reason::Queued { machine, ahead } => [4, machine.0, ahead].digest(h),
+            Reason::Carried { index, ahead } => [5, index, ahead].digest(h),
+            Reason::GrantLost => 6u8.digest(h),
+        }
     }
 }
 
 // Its number, and the values of a reason.
-#[tactic(auto, using(crate::specs::Loops::parts))]
+#[tactic(auto, using(crate::specs::Parts::parts))]
 pub fn reason(h: u32, a: ReasonAnswer) -> u32
     ensures { result ≡ digest_of h (reason_number a ∷ reason_values a) }
 {
     match a {
-        ReasonAnswer::Because(r) => because(byte(h, 0), r),
+        ReasonAnswer::Because(r) => r.digest(byte(h, 0)),
         ReasonAnswer::Refused(r) => byte(h, r.number()),
     }
 }
@@ -330,11 +297,12 @@ pub fn handling(h: u32, a: Handling) -> u32
 }
 
 // ---- and what a search of its wire comes to
+#[tactic(auto, unfolding(crate::specs::Bytes::each))]
 pub fn found(h: u32, f: Found) -> u32
     ensures { result ≡ digest_of h (found_bytes f) }
 {
     match f {
         Found::Nowhere => byte(h, 0),
-        Found::At(index) => two(h, 1, index),
+        Found::At(index) => [1, index].digest(h),
     }
 }
