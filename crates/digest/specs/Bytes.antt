@@ -1,5 +1,5 @@
 -- The digest of bytes and the bytes of a cluster, as docs/random-runs.md lays them down.
-use Rattle.std.specs.Prelude.{Bool, List, [], ◌∷◌, ◌++◌, ℕ, ◌+◌, ◌*◌, ◌%◌}
+use Rattle.std.specs.Prelude.{Bool, List, [], ◌∷◌, ◌++◌, ℕ, ◌+◌, ◌*◌, ◌%◌, Option, Some, None}
 use Rattle.model.specs.declared.Owner.{Owner}
 use Rattle.model.specs.declared.Owner.TheVariants.{Free as Unowned, Owned}
 use Rattle.model.specs.declared.{Decider.Decider, Waiter.Waiter, Queue.Queue, Agent.Agent, AgentSlot.AgentSlot}
@@ -8,9 +8,9 @@ use Rattle.model.specs.declared.Address.{Address}
 use Rattle.model.specs.declared.Address.TheVariants.{Decider as ToDecider, Machine as ToMachine}
 use Rattle.model.specs.declared.Status.{Status}
 use Rattle.model.specs.declared.Status.TheVariants.{Idle, Waiting, Holding}
-use Rattle.model.specs.declared.{Found.Found, Found.TheVariants.{Nowhere, At}}
 use Rattle.model.specs.declared.Handling.{Handling}
-use Rattle.model.specs.declared.Handling.TheVariants.{None, NoAgent, NotHolder, Taken}
+use Rattle.model.specs.declared.Handling.TheVariants.{NoAgent, NotHolder, Taken}
+use Rattle.model.specs.Names.{Found, Nowhere, At}
 use Rattle.model.specs.declared.{Packet.Packet, Wire.Wire, ClientState.ClientState, LockState.LockState, Cluster.Cluster}
 use Rattle.model.specs.Lists.{pick}
 use Rattle.model.specs.States.{mode_number, waiters, packets}
@@ -81,11 +81,11 @@ unfoldable pub cluster_bytes : Cluster → List ℕ
 cluster_bytes x = x.preference ∷ each lock_bytes x.locks
 
 -- a handling, as 'A step' writes it
-abbrev pub handling_number : Handling → ℕ
+abbrev pub handling_number : Option Handling → ℕ
 handling_number None = 0
-handling_number NoAgent = 1
-handling_number NotHolder = 2
-handling_number Taken = 3
+handling_number (Some NoAgent) = 1
+handling_number (Some NotHolder) = 2
+handling_number (Some Taken) = 3
 
 -- and what a search of a wire comes to
 abbrev pub found_bytes : Found → List ℕ

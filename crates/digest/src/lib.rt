@@ -2,8 +2,7 @@
 #![tactic(auto)]
 
 ghost use Rattle.std.specs.Prelude.{◌≡◌, List, ℕ, [], ◌∷◌, take};
-ghost use Rattle.model.specs.declared.ReasonAnswer.TheVariants.{Because};
-ghost use Rattle.model.specs.States.{mode_number};
+ghost use Rattle.model.specs.Names.{Because};
 ghost use Rattle.model.specs.Reasons.{reason_number, reason_values};
 ghost use Rattle.model.specs.History.{message_numbers};
 ghost use Rattle.digest.specs.Bytes.{digest_of, each, flag_bytes, owner_bytes, decider_bytes, waiter_bytes, queue_bytes, agent_bytes, slot_bytes};
@@ -11,8 +10,8 @@ ghost use Rattle.digest.specs.Bytes.{status_number, client_bytes, address_bytes,
 ghost use Rattle.digest.specs.Bytes.{handling_number, found_bytes};
 
 use model::{
-    Address, Agent, AgentSlot, ClientState, Cluster, Decider, Found, Handling, LockState, Message,
-    Mode, Owner, Packet, Queue, Reason, ReasonAnswer, Status, Waiter, Wire,
+    Address, Agent, AgentSlot, ClientState, Cluster, Decider, Handling, LockState, Message, Mode,
+    Numbered, Owner, Packet, Queue, Reason, ReasonAnswer, Status, Waiter, Wire,
 };
 use parts::used::used;
 
@@ -66,15 +65,6 @@ impl<T: Digest, const N: usize> Digest for [T; N] {
     }
 }
 
-fn mode_number(m: Mode) -> u8
-    ensures { result ≡ mode_number m }
-{
-    match m {
-        Mode::Exclusive => 2,
-        Mode::Shared => 3,
-    }
-}
-
 // ---- item 1
 impl Digest for Owner {
     ghost bytes = { owner_bytes };
@@ -83,7 +73,7 @@ impl Digest for Owner {
     fn digest(&self, h: u32) -> u32 {
         match *self {
             Owner::Free => [0, 0].digest(h),
-            Owner::Owned(m, k) => [mode_number(m), k.0].digest(h),
+            Owner::Owned(m, k) => [m.number(), k.0].digest(h),
         }
     }
 }
@@ -104,7 +94,7 @@ impl Digest for Waiter {
 
     #[tactic(auto, unfolding(crate::specs::Bytes::each, crate::specs::Bytes::waiter_bytes))]
     fn digest(&self, h: u32) -> u32 {
-        [self.client.0, mode_number(self.mode)].digest(h)
+        [self.client.0, self.mode.number()].digest(h)
     }
 }
 
@@ -122,7 +112,7 @@ impl Digest for Agent {
 
     #[tactic(auto, using(crate::specs::Parts::parts), unfolding(crate::specs::Bytes::each, crate::specs::Bytes::agent_bytes))]
     fn digest(&self, h: u32) -> u32 {
-        let h = [mode_number(self.mode), self.incarnation].digest(h);
+        let h = [self.mode.number(), self.incarnation].digest(h);
         let h = self.holders.digest(h);
         self.queue.digest(h)
     }
@@ -148,7 +138,7 @@ fn status_number(s: Status) -> u8
 {
     match s {
         Status::Idle => 0,
-        Status::Waiting(m) => mode_number(m),
+        Status::Waiting(m) => m.number(),
         Status::Holding(Mode::Exclusive) => 6,
         Status::Holding(Mode::Shared) => 7,
     }
@@ -174,8 +164,8 @@ impl Digest for Message {
                 client,
                 mode,
                 granted,
-            } => [1, client.0, mode_number(mode), u8::from(granted)].digest(h),
-            Message::Grant { client, mode } => [2, client.0, mode_number(mode), 0].digest(h),
+            } => [1, client.0, mode.number(), u8::from(granted)].digest(h),
+            Message::Grant { client, mode } => [2, client.0, mode.number(), 0].digest(h),
             Message::Release { client } => [3, client.0, 0, 0].digest(h),
             Message::Free => [4, 0, 0, 0].digest(h),
         }
@@ -273,24 +263,24 @@ pub fn reason(h: u32, a: ReasonAnswer) -> u32
     ensures { result ≡ digest_of h (reason_number a ∷ reason_values a) }
 {
     match a {
-        ReasonAnswer::Because(r) => r.digest(byte(h, 0)),
-        ReasonAnswer::Refused(r) => byte(h, r.number()),
+        Ok(r) => r.digest(byte(h, 0)),
+        Err(r) => byte(h, r.number()),
     }
 }
 
 // ---- and the handling that it tells
-fn handling_number(h: Handling) -> u8
+fn handling_number(h: Option<Handling>) -> u8
     ensures { result ≡ handling_number h }
 {
     match h {
-        Handling::None => 0,
-        Handling::NoAgent => 1,
-        Handling::NotHolder => 2,
-        Handling::Taken => 3,
+        None => 0,
+        Some(Handling::NoAgent) => 1,
+        Some(Handling::NotHolder) => 2,
+        Some(Handling::Taken) => 3,
     }
 }
 
-pub fn handling(h: u32, a: Handling) -> u32
+pub fn handling(h: u32, a: Option<Handling>) -> u32
     ensures { result ≡ digest_of h (handling_number a ∷ []) }
 {
     byte(h, handling_number(a))
@@ -298,11 +288,11 @@ pub fn handling(h: u32, a: Handling) -> u32
 
 // ---- and what a search of its wire comes to
 #[tactic(auto, unfolding(crate::specs::Bytes::each))]
-pub fn found(h: u32, f: Found) -> u32
+pub fn found(h: u32, f: Option<u8>) -> u32
     ensures { result ≡ digest_of h (found_bytes f) }
 {
     match f {
-        Found::Nowhere => byte(h, 0),
-        Found::At(index) => [1, index].digest(h),
+        None => byte(h, 0),
+        Some(index) => [1, index].digest(h),
     }
 }
