@@ -3,4 +3,3 @@ pub mod Names
 pub mod Effects
 pub mod Leaving
 pub mod Room
-pub mod Tested

@@ -6,7 +6,7 @@ ghost use Rattle.model.specs.Asking.{queuing, with_room, may_join, client_asks, 
 ghost use Rattle.laws.specs.Shapes.{CanonicalQueue};
 ghost use Rattle.rules.specs.Effects.{verdict_of};
 
-use crate::effect::{Effect, cannot_place, doing, no_packet, one_packet};
+use crate::effect::{Effect, Sends, doing, sending};
 use crate::site::{with_slot, with_status};
 use model::{Address, Agent, ClientId, Message, Mode, Site, Status, Waiter};
 use parts::blank::{plain_packet, some_agent};
@@ -19,45 +19,32 @@ pub fn may_join(v: Site, m: Mode) -> bool
     requires { CanonicalQueue v.slot.agent.queue }
     ensures { result ≡ may_join v m }
 {
-    let x = v.slot;
-    let a = x.agent;
-    let n = a.mode;
-    if is_shared(n) {
-        if is_shared(m) {
-            !writer_first(v.preference, a)
-        } else {
-            false
-        }
-    } else {
-        false
-    }
+    let a = v.slot.agent;
+    is_shared(a.mode) && is_shared(m) && !writer_first(v.preference, a)
 }
 
 // The client joins the end of the agent's queue.
 #[tactic(auto, using(crate::specs::Room::room_left))]
-pub fn queue_last(v: Site, mut a: Agent, c: ClientId, m: Mode) -> Effect
+pub fn queue_last(v: Site, mut a: Agent, c: ClientId, m: Mode) -> Option<Effect>
     requires { CanonicalQueue a.queue }
     ensures { verdict_of result ≡ with_room a c (does (with_slot v (some_agent (queuing a c m))) []) }
 {
     if no_room(a, c) {
-        cannot_place()
-    } else {
-        a.queue = push(a.queue, Waiter { client: c, mode: m });
-        let w = with_slot(v, some_agent(a));
-        doing(w, no_packet())
+        return None;
     }
+    a.queue = push(a.queue, Waiter { client: c, mode: m });
+    doing(with_slot(v, some_agent(a)), Sends::Nothing)
 }
 
 // The agent a is on the client's machine.
 #[tactic(auto, unfolding(model::specs::Asking::client_asks))]
-fn ask_agent(v: Site, a: Agent, c: ClientId, m: Mode) -> Effect
+fn ask_agent(v: Site, a: Agent, c: ClientId, m: Mode) -> Option<Effect>
     requires { (CanonicalQueue v.slot.agent.queue) × (CanonicalQueue a.queue) }
     ensures { verdict_of result ≡ client_asks v c m true a }
 {
     if may_join(v, m) {
-        let x = some_agent(join(a, c));
-        let w = with_slot(with_status(v, Status::Holding(m)), x);
-        doing(w, no_packet())
+        let holding = with_status(v, Status::Holding(m));
+        doing(with_slot(holding, some_agent(join(a, c))), Sends::Nothing)
     } else {
         queue_last(with_status(v, Status::Waiting(m)), a, c, m)
     }
@@ -65,29 +52,27 @@ fn ask_agent(v: Site, a: Agent, c: ClientId, m: Mode) -> Effect
 
 // No agent is on the client's machine.
 #[tactic(auto, unfolding(model::specs::Asking::client_asks))]
-fn ask_decider(v: Site, c: ClientId, m: Mode) -> Effect
+fn ask_decider(v: Site, c: ClientId, m: Mode) -> Option<Effect>
     ensures { (a : Agent) → verdict_of result ≡ client_asks v c m false a }
 {
-    let p = plain_packet(
-        Message::Acquire {
-            client: c,
-            mode: m,
-            granted: false,
-        },
-        Address::Decider,
-    );
-    let w = with_status(v, Status::Waiting(m));
-    doing(w, one_packet(p))
+    let request = Message::Acquire {
+        client: c,
+        mode: m,
+        granted: false,
+    };
+    sending(
+        with_status(v, Status::Waiting(m)),
+        plain_packet(request, Address::Decider),
+    )
 }
 
 #[tactic(auto, unfolding(model::specs::Asking::client_acquires))]
-pub fn acquire(v: Site, c: ClientId, m: Mode) -> Effect
+pub fn acquire(v: Site, c: ClientId, m: Mode) -> Option<Effect>
     requires { CanonicalQueue v.slot.agent.queue }
     ensures { verdict_of result ≡ client_acquires v c m }
 {
-    let x = v.slot;
-    if x.present {
-        ask_agent(v, x.agent, c, m)
+    if v.slot.present {
+        ask_agent(v, v.slot.agent, c, m)
     } else {
         ask_decider(v, c, m)
     }

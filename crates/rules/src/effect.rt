@@ -1,114 +1,54 @@
-// What a rule says of a step, as the model's verdict does: that it cannot be placed, or all that it writes and sends.
-ghost use Rattle.std.specs.Prelude.{◌≡◌, [], ◌∷◌, map};
-ghost use Rattle.model.specs.States.{waiters};
-ghost use Rattle.model.specs.Changes.{cannot_place, does};
-ghost use Rattle.model.specs.AtMachine.{grant_of};
+// What a rule says of a step, as the model's verdict does: all that it writes and sends, or None where it cannot be placed.
+ghost use Rattle.std.specs.Prelude.{◌≡◌, ◌≤◌, [], ◌∷◌, length};
+ghost use Rattle.model.specs.States.{queue_capacity};
+ghost use Rattle.model.specs.Changes.{does};
 ghost use Rattle.rules.specs.Effects.{sent_by, verdict_of};
 
-use model::{Packet, Queue, Site, Status};
-use parts::blank::{blank_packet, empty_queue, no_agent, unowned};
+use model::{Packet, QUEUE_CAPACITY, Queue, Site};
+use parts::used::used;
 
-// Packets sent: the first, or both, or none of two, and then a GRANT for each waiter admitted.
+// The packets that a step sends, in their order. Grants: one for each waiter of the queue.
 #[derive(Clone, Copy, Drop)]
-pub struct Sends {
-    pub count: u8,
-    pub first: Packet,
-    pub second: Packet,
-    pub admitted: Queue,
+pub enum Sends {
+    Nothing,
+    One(Packet),
+    Two(Packet, Packet),
+    Grants(Queue),
 }
 
-// placed: the step can be placed; site: what it writes.
+impl Sends {
+    // How many packets they are. A queue made by hand may claim more waiters than it has.
+    #[tactic(auto, unfolding(model::specs::States::waiters))]
+    pub fn count(self) -> usize
+        ensures few { result ≤ queue_capacity }
+        ensures all { result ≡ length (sent_by self) }
+    {
+        match self {
+            Sends::Nothing => 0,
+            Sends::One(_) => 1,
+            Sends::Two(_, _) => 2,
+            Sends::Grants(q) => used(q.len, QUEUE_CAPACITY),
+        }
+    }
+}
+
+// What a step that is placed writes and sends.
 #[derive(Clone, Copy, Drop)]
 pub struct Effect {
-    pub placed: bool,
     pub site: Site,
     pub sends: Sends,
 }
 
-// ---- packets sent
-#[tactic(auto, unfolding(model::specs::States::waiters, model::specs::States::queue_of))]
-pub fn no_packet() -> Sends
-    ensures { sent_by result ≡ [] }
+// The step is placed.
+pub fn doing(site: Site, sends: Sends) -> Option<Effect>
+    ensures { verdict_of result ≡ does site (sent_by sends) }
 {
-    grants_to(empty_queue())
-}
-
-#[tactic(auto, unfolding(crate::specs::Effects::sent_by, model::specs::States::waiters, model::specs::States::queue_of))]
-pub fn one_packet(p: Packet) -> Sends
-    ensures { sent_by result ≡ p ∷ [] }
-{
-    let q = empty_queue();
-    Sends {
-        count: 1,
-        first: p,
-        second: p,
-        admitted: q,
-    }
-}
-
-// p before q.
-#[tactic(auto, unfolding(crate::specs::Effects::sent_by, model::specs::States::waiters, model::specs::States::queue_of))]
-pub fn two_packets(p: Packet, q: Packet) -> Sends
-    ensures { sent_by result ≡ p ∷ q ∷ [] }
-{
-    let e = empty_queue();
-    Sends {
-        count: 2,
-        first: p,
-        second: q,
-        admitted: e,
-    }
-}
-
-#[tactic(auto, unfolding(crate::specs::Effects::sent_by))]
-pub fn grants_to(q: Queue) -> Sends
-    ensures { sent_by result ≡ map grant_of (waiters q) }
-{
-    let p = blank_packet();
-    Sends {
-        count: 0,
-        first: p,
-        second: p,
-        admitted: q,
-    }
-}
-
-#[tactic(auto, unfolding(crate::specs::Effects::verdict_of))]
-pub fn cannot_place() -> Effect
-    ensures { verdict_of result ≡ cannot_place }
-{
-    let d = unowned();
-    let x = no_agent();
-    let t = no_packet();
-    let v = Site {
-        preference: 0,
-        decider: d,
-        slot: x,
-        status: Status::Idle,
-        lost: false,
-    };
-    Effect {
-        placed: false,
-        site: v,
-        sends: t,
-    }
-}
-
-// The step is placed: it writes the site and sends the packets.
-#[tactic(auto, unfolding(crate::specs::Effects::verdict_of))]
-pub fn doing(v: Site, t: Sends) -> Effect
-    ensures { verdict_of result ≡ does v (sent_by t) }
-{
-    Effect {
-        placed: true,
-        site: v,
-        sends: t,
-    }
+    Some(Effect { site, sends })
 }
 
 // Nothing but a packet sent.
-pub fn sending(v: Site, p: Packet) -> Effect
-    ensures { verdict_of result ≡ does v (p ∷ []) }
+pub fn sending(site: Site, p: Packet) -> Option<Effect>
+    ensures { verdict_of result ≡ does site (p ∷ []) }
 {
-    doing(v, one_packet(p))
+    doing(site, Sends::One(p))
 }

@@ -5,10 +5,11 @@ ghost use Rattle.model.specs.Asking.{hand_over, leaves, lists, client_releases, 
 ghost use Rattle.laws.specs.Shapes.{CanonicalQueue};
 ghost use Rattle.rules.specs.Effects.{verdict_of};
 
-use crate::effect::{Effect, doing, no_packet, one_packet, sending};
+use crate::effect::{Effect, Sends, doing, sending};
 use crate::site::{with_note, with_slot, with_status};
 use model::{
     Address, Agent, AgentSlot, CLIENTS, ClientId, MachineId, Message, Packet, Site, Status, TASKS,
+    Waiter,
 };
 use parts::blank::{carrying, no_agent, plain_packet, some_agent};
 use parts::holders::{any_holder, holds, set_holder};
@@ -21,35 +22,27 @@ fn hand_over(mut a: Agent, hs: [bool; CLIENTS]) -> Packet
     requires { CanonicalQueue a.queue }
     ensures { result ≡ hand_over a hs (waiters a.queue) }
 {
-    let q = a.queue;
     a.holders = hs;
-    if 0 < q.len {
-        let w = first(q);
-        a.queue = pop(q);
-        let c = w.client;
-        let m = w.mode;
-        carrying(Message::Grant { client: c, mode: m }, Address::Decider, a)
-    } else {
-        carrying(Message::Free, Address::Decider, a)
+    if a.queue.len == 0 {
+        return carrying(Message::Free, Address::Decider, a);
     }
+    let Waiter { client, mode } = first(a.queue);
+    a.queue = pop(a.queue);
+    carrying(Message::Grant { client, mode }, Address::Decider, a)
 }
 
 // The agent a removes the holder c and leaves if empty.
 #[tactic(auto, unfolding(model::specs::Asking::stays_if))]
-pub fn leave(v: Site, mut a: Agent, c: ClientId) -> Effect
+pub fn leave(v: Site, mut a: Agent, c: ClientId) -> Option<Effect>
     requires { CanonicalQueue a.queue }
     ensures { verdict_of result ≡ leaves v a c }
 {
-    let h = a.holders;
-    let g = set_holder(h, c, false);
-    if any_holder(g) {
-        a.holders = g;
-        let w = with_slot(v, some_agent(a));
-        doing(w, no_packet())
+    let others = set_holder(a.holders, c, false);
+    if any_holder(others) {
+        a.holders = others;
+        doing(with_slot(v, some_agent(a)), Sends::Nothing)
     } else {
-        let p = hand_over(a, g);
-        let w = with_slot(v, no_agent());
-        doing(w, one_packet(p))
+        sending(with_slot(v, no_agent()), hand_over(a, others))
     }
 }
 
@@ -57,9 +50,7 @@ pub fn leave(v: Site, mut a: Agent, c: ClientId) -> Effect
 pub fn listed(x: AgentSlot, c: ClientId) -> bool
     ensures { result ≡ lists x c }
 {
-    let a = x.agent;
-    let h = a.holders;
-    if x.present { holds(h, c) } else { false }
+    x.present && holds(x.agent.holders, c)
 }
 
 pub fn machine_of(c: ClientId) -> MachineId
@@ -68,38 +59,32 @@ pub fn machine_of(c: ClientId) -> MachineId
     MachineId(c.0 / TASKS as u8)
 }
 
-// A client that holds releases.
-#[tactic(auto, unfolding(model::specs::Asking::client_releases))]
-pub fn release(v: Site, c: ClientId) -> Effect
+// A client that holds releases. Where no agent here lists it, its RELEASE is to find the one that does, as where it gives up.
+#[tactic(auto, unfolding(model::specs::Asking::client_releases, model::specs::Asking::client_gives_up))]
+pub fn release(v: Site, c: ClientId) -> Option<Effect>
     requires { CanonicalQueue v.slot.agent.queue }
     ensures { verdict_of result ≡ client_releases v c }
 {
-    let x = v.slot;
-    let w = with_status(v, Status::Idle);
-    if listed(x, c) {
-        leave(w, x.agent, c)
+    if listed(v.slot, c) {
+        leave(with_status(v, Status::Idle), v.slot.agent, c)
     } else {
-        let p = plain_packet(Message::Release { client: c }, Address::Decider);
-        sending(w, p)
+        give_up(v, c)
     }
 }
 
 // A client that waits gives up.
 #[tactic(auto, unfolding(model::specs::Asking::client_gives_up))]
-pub fn give_up(v: Site, c: ClientId) -> Effect
+pub fn give_up(v: Site, c: ClientId) -> Option<Effect>
     ensures { verdict_of result ≡ client_gives_up v c }
 {
-    let w = with_status(v, Status::Idle);
     let p = plain_packet(Message::Release { client: c }, Address::Decider);
-    sending(w, p)
+    sending(with_status(v, Status::Idle), p)
 }
 
 // A GRANT is lost: its client, if it waits, has a note of that.
 #[tactic(auto, unfolding(model::specs::Asking::grant_is_lost))]
-pub fn lose(v: Site) -> Effect
+pub fn lose(v: Site) -> Option<Effect>
     ensures { verdict_of result ≡ grant_is_lost v }
 {
-    let st = v.status;
-    let w = with_note(v, is_waiting(st));
-    doing(w, no_packet())
+    doing(with_note(v, is_waiting(v.status)), Sends::Nothing)
 }

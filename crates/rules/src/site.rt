@@ -6,57 +6,44 @@ use model::{AgentSlot, ClientId, Decider, LockState, MachineId, Site, Status};
 use parts::state::{agent_at, note_at, status_at};
 
 // n is the cluster's preference.
-pub fn site_of(n: u8, s: LockState, k: MachineId, c: ClientId) -> Site
-    ensures { result ≡ site_of n s k c }
+pub fn site_of(n: u8, s: &LockState, k: MachineId, c: ClientId) -> Site
+    ensures { result ≡ site_of n s.now k c }
 {
-    let d = s.decider;
-    let agents = s.agents;
-    let clients = s.clients;
-    let x = agent_at(agents, k);
-    let st = status_at(clients, c);
-    let b = note_at(clients, c);
     Site {
         preference: n,
-        decider: d,
-        slot: x,
-        status: st,
-        lost: b,
+        decider: s.decider,
+        slot: agent_at(s.agents, k),
+        status: status_at(s.clients, c),
+        lost: note_at(s.clients, c),
     }
 }
 
 // ---- the site with one part written
-pub fn with_decider(mut v: Site, d: Decider) -> Site
-    ensures { result ≡ with_decider v d }
+pub fn with_decider(v: Site, decider: Decider) -> Site
+    ensures { result ≡ with_decider v decider }
 {
-    v.decider = d;
-    v
+    Site { decider, ..v }
 }
 
-pub fn with_slot(mut v: Site, x: AgentSlot) -> Site
-    ensures { result ≡ with_slot v x }
+pub fn with_slot(v: Site, slot: AgentSlot) -> Site
+    ensures { result ≡ with_slot v slot }
 {
-    v.slot = x;
-    v
+    Site { slot, ..v }
 }
 
 // A status that is written has no note.
-pub fn with_status(v: Site, st: Status) -> Site
-    ensures { result ≡ with_status v st }
+pub fn with_status(v: Site, status: Status) -> Site
+    ensures { result ≡ with_status v status }
 {
-    let d = v.decider;
-    let x = v.slot;
     Site {
-        preference: v.preference,
-        decider: d,
-        slot: x,
-        status: st,
+        status,
         lost: false,
+        ..v
     }
 }
 
-pub fn with_note(mut v: Site, b: bool) -> Site
-    ensures { result ≡ with_note v b }
+pub fn with_note(v: Site, lost: bool) -> Site
+    ensures { result ≡ with_note v lost }
 {
-    v.lost = b;
-    v
+    Site { lost, ..v }
 }
