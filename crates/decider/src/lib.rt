@@ -1,5 +1,5 @@
-// Deliveries at the decider. Parameters of a rule: v the site, p the packet, o the owner, c the client, m its mode, k the owner's machine, a the agent.
-// In a contract a name is the model's; `verdict_of` (rules/specs/Effects.antt) reads an Effect as the model's Verdict.
+// Deliveries at the decider. Parameters of a rule: v the site, p the packet, c the client, m its mode, k the owner's machine, a the agent.
+// In a contract a name is the model's; `verdict_of` (rules/specs/Effects.antt) reads what a rule gives as the model's Verdict.
 #![tactic(auto)]
 
 ghost use Rattle.std.specs.Prelude.{◌≡◌, true, false, ◌==◌};
@@ -12,7 +12,7 @@ use model::{Address, Agent, ClientId, Decider, MachineId, Message, Mode, Owner, 
 use parts::blank::{carrying, new_agent, plain_packet, resent, unowned};
 use parts::holders::is_shared;
 use queues::writer_first;
-use rules::effect::{Effect, cannot_place, doing, no_packet, one_packet, sending, two_packets};
+use rules::effect::{Effect, Sends, doing, sending};
 use rules::leaving::machine_of;
 use rules::site::with_decider;
 
@@ -21,18 +21,7 @@ use rules::site::with_decider;
 fn may_share(v: Site, m: Mode) -> bool
     ensures { result ≡ may_share v m }
 {
-    let d = v.decider;
-    let o = d.owner;
-    match o {
-        Owner::Free => false,
-        Owner::Owned(n, _) => {
-            if is_shared(n) {
-                if is_shared(m) { !d.writer } else { false }
-            } else {
-                false
-            }
-        }
-    }
+    matches!(v.decider.owner, Owner::Owned(Mode::Shared, _)) && is_shared(m) && !v.decider.writer
 }
 
 fn sent_on(p: Packet, k: MachineId) -> Packet
@@ -48,28 +37,28 @@ fn rejected_to(p: Packet, k: MachineId) -> Packet
 }
 
 #[tactic(auto, unfolding(model::specs::AtDecider::to_owner))]
-fn to_owner(o: Owner, v: Site, p: Packet) -> Effect
-    ensures { verdict_of result ≡ to_owner o v p }
+fn to_owner(v: Site, p: Packet) -> Option<Effect>
+    ensures { verdict_of result ≡ to_owner v.decider.owner v p }
 {
-    match o {
-        Owner::Free => cannot_place(),
-        Owner::Owned(_, k) => sending(v, sent_on(p, k)),
-    }
+    let Owner::Owned(_, k) = v.decider.owner else {
+        return None;
+    };
+    sending(v, sent_on(p, k))
 }
 
 // At a free lock a RELEASE goes to the wire's end, and comes again.
 #[tactic(auto, unfolding(model::specs::AtDecider::decides_release))]
-fn decides_release(o: Owner, v: Site, p: Packet) -> Effect
-    ensures { verdict_of result ≡ decides_release o v p }
+fn decides_release(v: Site, p: Packet) -> Option<Effect>
+    ensures { verdict_of result ≡ decides_release v.decider.owner v p }
 {
-    match o {
+    match v.decider.owner {
         Owner::Free => sending(v, resent(p, Address::Decider, p.rejected)),
         Owner::Owned(_, k) => sending(v, sent_on(p, k)),
     }
 }
 
 // The client's machine becomes the owner, and gets the agent a with the GRANT; writer: one is known to wait.
-fn grants_with(v: Site, c: ClientId, m: Mode, a: Agent, writer: bool) -> Effect
+fn grants_with(v: Site, c: ClientId, m: Mode, a: Agent, writer: bool) -> Option<Effect>
     ensures { verdict_of result ≡ grants_with v c m a writer }
 {
     let k = machine_of(c);
@@ -78,42 +67,29 @@ fn grants_with(v: Site, c: ClientId, m: Mode, a: Agent, writer: bool) -> Effect
         incarnation: 0,
         writer,
     };
-    let p = carrying(
-        Message::Grant { client: c, mode: m },
-        Address::Machine(k),
-        a,
-    );
-    let w = with_decider(v, d);
-    doing(w, one_packet(p))
+    let grant = Message::Grant { client: c, mode: m };
+    sending(with_decider(v, d), carrying(grant, Address::Machine(k), a))
 }
 
-fn grants_first(v: Site, c: ClientId, m: Mode) -> Effect
+fn grants_first(v: Site, c: ClientId, m: Mode) -> Option<Effect>
     ensures { verdict_of result ≡ grants_first v c m }
 {
-    let d = v.decider;
-    grants_with(v, c, m, new_agent(m), d.writer)
+    grants_with(v, c, m, new_agent(m), v.decider.writer)
 }
 
 // The GRANT goes out before the marked ACQUIRE.
-fn shares(v: Site, c: ClientId, k: MachineId) -> Effect
+fn shares(mut v: Site, c: ClientId, k: MachineId) -> Option<Effect>
     ensures { verdict_of result ≡ shares v c k }
 {
-    let old = v.decider;
-    let o = old.owner;
-    let n = std::num::wrapping_add_u8(old.incarnation, 1);
-    let d = Decider {
-        owner: o,
-        incarnation: n,
-        writer: old.writer,
-    };
-    let g = plain_packet(
+    v.decider.incarnation = std::num::wrapping_add_u8(v.decider.incarnation, 1);
+    let grant = plain_packet(
         Message::Grant {
             client: c,
             mode: Mode::Shared,
         },
         Address::Machine(machine_of(c)),
     );
-    let a = plain_packet(
+    let request = plain_packet(
         Message::Acquire {
             client: c,
             mode: Mode::Shared,
@@ -121,49 +97,29 @@ fn shares(v: Site, c: ClientId, k: MachineId) -> Effect
         },
         Address::Machine(k),
     );
-    let w = with_decider(v, d);
-    doing(w, two_packets(g, a))
+    doing(v, Sends::Two(grant, request))
 }
 
 // The site once an unmarked request in mode m is sent on: the decider knows of a writer then, where these are preferred.
-fn noting(v: Site, m: Mode) -> Site
+fn noting(mut v: Site, m: Mode) -> Site
     ensures { result ≡ noting v m }
 {
-    let old = v.decider;
-    let o = old.owner;
-    let shared = is_shared(m);
-    let d = Decider {
-        owner: o,
-        incarnation: old.incarnation,
-        writer: old.writer | ((v.preference == 1) & !shared),
-    };
-    with_decider(v, d)
+    v.decider.writer |= v.preference == 1 && !is_shared(m);
+    v
 }
 
-#[tactic(auto, using(crate::specs::Marked::marked_sent))]
-fn decides_acquire(o: Owner, v: Site, p: Packet, c: ClientId, m: Mode, granted: bool) -> Effect
-    ensures { verdict_of result ≡ decides_acquire o v p c m granted }
+// A marked request has been granted, and is never granted again.
+#[tactic(auto, using(crate::specs::Marked::marked_sent), unfolding(model::specs::AtDecider::decides_acquire))]
+fn decides_acquire(v: Site, p: Packet, c: ClientId, m: Mode, granted: bool) -> Option<Effect>
+    ensures { verdict_of result ≡ decides_acquire v.decider.owner v p c m granted }
 {
     if granted {
-        to_owner(o, v, p)
-    } else {
-        decides_unmarked(o, v, p, c, m)
+        return to_owner(v, p);
     }
-}
-
-#[tactic(auto, unfolding(model::specs::AtDecider::decides_acquire))]
-fn decides_unmarked(o: Owner, v: Site, p: Packet, c: ClientId, m: Mode) -> Effect
-    ensures { verdict_of result ≡ decides_acquire o v p c m false }
-{
-    match o {
+    match v.decider.owner {
         Owner::Free => grants_first(v, c, m),
-        Owner::Owned(_, k) => {
-            if may_share(v, m) {
-                shares(v, c, k)
-            } else {
-                to_owner(o, noting(v, m), p)
-            }
-        }
+        Owner::Owned(_, k) if may_share(v, m) => shares(v, c, k),
+        Owner::Owned(_, _) => to_owner(noting(v, m), p),
     }
 }
 
@@ -175,80 +131,61 @@ fn is_current(d: Decider, p: Packet) -> bool
 }
 
 #[tactic(auto, unfolding(model::specs::AtDecider::decides_free))]
-fn decides_free(o: Owner, v: Site, p: Packet) -> Effect
-    ensures { verdict_of result ≡ decides_free o v p }
+fn decides_free(v: Site, p: Packet) -> Option<Effect>
+    ensures { verdict_of result ≡ decides_free v.decider.owner v p }
 {
-    match o {
-        Owner::Free => cannot_place(),
-        Owner::Owned(_, k) => {
-            if is_current(v.decider, p) {
-                let w = with_decider(v, unowned());
-                doing(w, no_packet())
-            } else {
-                sending(v, rejected_to(p, k))
-            }
-        }
+    let Owner::Owned(_, k) = v.decider.owner else {
+        return None;
+    };
+    if !is_current(v.decider, p) {
+        return sending(v, rejected_to(p, k));
     }
+    doing(with_decider(v, unowned()), Sends::Nothing)
 }
 
 // A GRANT with its agent.
 #[tactic(auto, unfolding(model::specs::AtDecider::decides_grant))]
-fn decides_agent(o: Owner, v: Site, p: Packet, c: ClientId, m: Mode) -> Effect
+fn decides_agent(v: Site, p: Packet, c: ClientId, m: Mode) -> Option<Effect>
     requires { CanonicalQueue p.carried.agent.queue }
-    ensures { verdict_of result ≡ decides_grant true o v p c m }
+    ensures { verdict_of result ≡ decides_grant true v.decider.owner v p c m }
 {
-    match o {
-        Owner::Free => cannot_place(),
-        Owner::Owned(_, k) => {
-            if is_current(v.decider, p) {
-                let x = p.carried;
-                let mut a = x.agent;
-                let writer = writer_first(v.preference, a);
-                a.incarnation = 0;
-                grants_with(v, c, m, a, writer)
-            } else {
-                sending(v, rejected_to(p, k))
-            }
-        }
+    let Owner::Owned(_, k) = v.decider.owner else {
+        return None;
+    };
+    if !is_current(v.decider, p) {
+        return sending(v, rejected_to(p, k));
     }
+    let mut a = p.carried.agent;
+    let writer = writer_first(v.preference, a);
+    a.incarnation = 0;
+    grants_with(v, c, m, a, writer)
 }
 
 #[tactic(auto, unfolding(model::specs::AtDecider::decides_grant))]
-fn decides_grant(o: Owner, v: Site, p: Packet, c: ClientId, m: Mode) -> Effect
+fn decides_grant(v: Site, p: Packet, c: ClientId, m: Mode) -> Option<Effect>
     requires { CanonicalQueue p.carried.agent.queue }
-    ensures { verdict_of result ≡ decides_grant p.carried.present o v p c m }
+    ensures { verdict_of result ≡ decides_grant p.carried.present v.decider.owner v p c m }
 {
     if p.carried.present {
-        decides_agent(o, v, p, c, m)
+        decides_agent(v, p, c, m)
     } else {
         sending(v, sent_on(p, machine_of(c)))
     }
 }
 
-#[tactic(auto, unfolding(model::specs::AtDecider::decides))]
-fn decides(m: Message, o: Owner, v: Site, p: Packet) -> Effect
+#[tactic(auto, unfolding(model::specs::AtDecider::decides, model::specs::AtDecider::at_decider))]
+pub fn at_decider(v: Site, p: Packet) -> Option<Effect>
     requires { CanonicalQueue p.carried.agent.queue }
-    ensures { verdict_of result ≡ decides m o v p }
+    ensures { verdict_of result ≡ at_decider v p }
 {
-    match m {
-        Message::Free => decides_free(o, v, p),
+    match p.message {
+        Message::Free => decides_free(v, p),
         Message::Acquire {
             client,
             mode,
             granted,
-        } => decides_acquire(o, v, p, client, mode, granted),
-        Message::Grant { client, mode } => decides_grant(o, v, p, client, mode),
-        Message::Release { client: _ } => decides_release(o, v, p),
+        } => decides_acquire(v, p, client, mode, granted),
+        Message::Grant { client, mode } => decides_grant(v, p, client, mode),
+        Message::Release { .. } => decides_release(v, p),
     }
-}
-
-#[tactic(auto, unfolding(model::specs::AtDecider::at_decider))]
-pub fn at_decider(v: Site, p: Packet) -> Effect
-    requires { CanonicalQueue p.carried.agent.queue }
-    ensures { verdict_of result ≡ at_decider v p }
-{
-    let m = p.message;
-    let d = v.decider;
-    let o = d.owner;
-    decides(m, o, v, p)
 }
