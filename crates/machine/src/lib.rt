@@ -276,16 +276,16 @@ pub fn at_machine(v: Site, p: Packet) -> Option<Effect>
 // What a machine with this slot makes of a message: why a request comes back. An ACQUIRE is for any agent, a RELEASE for the one that lists its client, or has
 // it in its queue; and other messages are no requests.
 #[tactic(auto, unfolding(model::specs::AtMachine::handles))]
-pub fn handling(m: Message, x: AgentSlot) -> Handling
+pub fn handling(m: Message, x: AgentSlot) -> Option<Handling>
     requires { CanonicalQueue x.agent.queue }
     ensures { result ≡ handles m x }
 {
     match m {
-        Message::Free | Message::Grant { .. } => Handling::None,
-        Message::Acquire { .. } | Message::Release { .. } if !x.present => Handling::NoAgent,
-        Message::Acquire { .. } => Handling::Taken,
-        Message::Release { client } if has(x, client) => Handling::Taken,
-        Message::Release { .. } => Handling::NotHolder,
+        Message::Free | Message::Grant { .. } => None,
+        Message::Acquire { .. } | Message::Release { .. } if !x.present => Some(Handling::NoAgent),
+        Message::Acquire { .. } => Some(Handling::Taken),
+        Message::Release { client } if has(x, client) => Some(Handling::Taken),
+        Message::Release { .. } => Some(Handling::NotHolder),
     }
 }
 
