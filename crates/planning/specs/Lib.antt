@@ -1,3 +1,4 @@
--- What a plan means, and laws of it.
+-- What a plan means, laws of it, and what sending does to a wire.
 pub mod Names
 pub mod Plans
+pub mod Sending

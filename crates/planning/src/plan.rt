@@ -1,193 +1,147 @@
 // Rules only say what a step does. The state is written here alone, so that it is copied for an accepted step, not for each rule on the way or for a refusal.
-ghost use Rattle.std.specs.Prelude.{◌≡◌, [], ◌∷◌, ◌++◌, map, ◌+◌, ◌≤◌, length, take};
-ghost use Rattle.std.proofs.lemmas.List.Edits.{sets};
-ghost use Rattle.model.specs.Lists.{removed};
-ghost use Rattle.model.specs.States.{queue_capacity, wire_capacity, wire_of, packets};
-ghost use Rattle.model.specs.Changes.{apply, refused, finish, telling};
+ghost use Rattle.std.specs.Prelude.{◌≡◌, [], ◌∷◌, ◌++◌, map, ◌+◌, ◌<◌, ◌≤◌, length, IfSome};
+ghost use Rattle.model.specs.States.{wire_capacity, waiters, wire_of, packets};
+ghost use Rattle.model.specs.Changes.{finish, telling};
 ghost use Rattle.model.specs.AtMachine.{grant_of};
 ghost use Rattle.laws.specs.Shapes.{CanonicalWire};
 ghost use Rattle.rules.specs.Effects.{sent_by, verdict_of};
 ghost use Rattle.planning.specs.Plans.{left_by, carried_out, Plans};
 
 use model::{
-    Address, Answer, ClientId, Handling, LockState, MachineId, Message, Mode, Packet,
-    QUEUE_CAPACITY, Refusal, WIRE_CAPACITY, Waiter, Wire,
+    Address, ClientId, Handling, LockState, MachineId, Message, Mode, Packet, QUEUE_CAPACITY,
+    Queue, Refusal, WIRE_CAPACITY, Wire,
 };
 use parts::blank::plain_packet;
 use parts::state::{put_agent, put_client};
+use parts::used::used;
 use parts::wire::take_off;
-use rules::effect::{Effect, Sends, cannot_place};
+use rules::effect::{Effect, Sends};
 
-type Slots = [Packet; WIRE_CAPACITY];
-
-// How many of two packets a count means.
-#[tactic(auto, using(rules::specs::Effects::few_of_two, rules::specs::Effects::all_of_two))]
-fn of_two(n: u8) -> u8
-    ensures { (result ≤ 2) × ((p q : Packet) → length (take n (p ∷ q ∷ [])) ≡ result) }
+// The packet goes to the wire's end.
+#[tactic(auto, using(crate::specs::Sending::sent_whole, crate::specs::Sending::sent_last))]
+fn send(w: &mut Wire, p: Packet)
+    requires { (CanonicalWire w.old) × (w.old.len < wire_capacity) }
+    ensures whole { CanonicalWire w.new }
+    ensures longer { w.new.len ≡ w.old.len + 1 }
+    ensures sent { packets w.new ≡ packets w.old ++ p ∷ [] }
 {
-    if n < 2 { n } else { 2 }
+    let n = w.len as usize;
+    w.slots[n] = p;
+    w.len += 1;
 }
 
-// How many of the slots a length means.
-fn of_slots(a: [Waiter; QUEUE_CAPACITY], n: u8) -> u8
-    ensures { (result ≤ queue_capacity) × (length (take n a) ≡ result) }
+// A GRANT for each waiter of the queue.
+fn post_grants(w: &mut Wire, q: Queue)
+    requires { (CanonicalWire w.old) × (w.old.len + length (waiters q) ≤ wire_capacity) }
+    ensures whole { CanonicalWire w.new }
+    ensures sent { packets w.new ≡ packets w.old ++ map grant_of (waiters q) }
 {
-    if n < QUEUE_CAPACITY as u8 {
-        n
-    } else {
-        QUEUE_CAPACITY as u8
+    for waiter in &q.slots[..used(q.len, QUEUE_CAPACITY)] {
+        let grant = Message::Grant {
+            client: waiter.client,
+            mode: Mode::Shared,
+        };
+        send(w, plain_packet(grant, Address::Decider));
     }
-}
-
-fn write_packets(a: Slots, n: usize, k: u8, p: Packet, q: Packet) -> Slots
-    requires { n + length (take k (p ∷ q ∷ [])) ≤ wire_capacity }
-    ensures { result ≡ sets a n (take k (p ∷ q ∷ [])) }
-{
-    let mut b = a;
-    if 0 < k {
-        b[n] = p;
-    }
-    if 1 < k {
-        b[n + 1] = q;
-    }
-    b
-}
-
-fn write_grants(a: Slots, n: usize, ws: [Waiter; QUEUE_CAPACITY], m: usize) -> Slots
-    requires { (m ≤ queue_capacity) × (n + m ≤ wire_capacity) }
-    ensures { result ≡ sets a n (map grant_of (take m ws)) }
-{
-    let mut b = a;
-    let mut j: usize = 0;
-    while j < m {
-        let w = ws[j];
-        let c = w.client;
-        b[n + j] = plain_packet(
-            Message::Grant {
-                client: c,
-                mode: Mode::Shared,
-            },
-            Address::Decider,
-        );
-        j += 1;
-    }
-    b
-}
-
-#[tactic(auto, using(rules::specs::Effects::sent_length))]
-fn sent_count(t: Sends) -> u8
-    ensures { (result ≤ 2 + queue_capacity) × (length (sent_by t) ≡ result) }
-{
-    let q = t.admitted;
-    let ws = q.slots;
-    of_two(t.count) + of_slots(ws, q.len)
 }
 
 // The packets go to the wire's end.
-fn post(w: Wire, t: Sends) -> Wire
-    requires { (CanonicalWire w) × (w.len + length (sent_by t) ≤ wire_capacity) }
-    ensures { result ≡ wire_of (packets w ++ sent_by t) }
+fn post(w: &mut Wire, sends: Sends)
+    requires { (CanonicalWire w.old) × (w.old.len + length (sent_by sends) ≤ wire_capacity) }
+    ensures whole { CanonicalWire w.new }
+    ensures sent { packets w.new ≡ packets w.old ++ sent_by sends }
 {
-    let a = w.slots;
-    let n = w.len;
-    let q = t.admitted;
-    let ws = q.slots;
-    let k = of_two(t.count);
-    let m = of_slots(ws, q.len);
-    let b = write_packets(a, n as usize, t.count, t.first, t.second);
-    let g = write_grants(b, (n + k) as usize, ws, m as usize);
-    Wire {
-        slots: g,
-        len: n + k + m,
+    match sends {
+        Sends::Nothing => {}
+        Sends::One(p) => send(w, p),
+        Sends::Two(p, q) => {
+            send(w, p);
+            send(w, q);
+        }
+        Sends::Grants(q) => post_grants(w, q),
     }
 }
 
-fn apply(k: MachineId, u: ClientId, e: Effect, rest: Wire, s: LockState) -> LockState
-    requires { (CanonicalWire rest) × (rest.len + length (sent_by e.sends) ≤ wire_capacity) }
-    ensures { result ≡ apply k u e.site (sent_by e.sends) (packets rest) s }
-{
-    let v = e.site;
-    let d = v.decider;
-    let st = v.status;
-    let agents = s.agents;
-    let clients = s.clients;
-    let a = put_agent(agents, k, v.slot);
-    let c = put_client(clients, u, st, v.lost);
-    let w = post(rest, e.sends);
-    LockState {
-        decider: d,
-        agents: a,
-        clients: c,
-        wire: w,
-    }
-}
-
-// A step before it is made: its answer and the handling that it tells; where it is accepted, the index of the packet taken off the wire, the machine and the
-// client concerned, and the effect.
+// A step that is accepted, before it is made: the handling that it tells, the index of the packet taken off the wire, if one is, the machine and the client
+// concerned, and the effect.
 #[derive(Clone, Copy, Drop)]
 pub struct Plan {
-    pub answer: Answer,
     pub handling: Handling,
-    pub(crate) index: u8,
+    pub(crate) index: Option<u8>,
     pub(crate) machine: MachineId,
     pub(crate) client: ClientId,
     pub(crate) effect: Effect,
 }
 
-// An index past the wire's end: no packet is taken off.
-pub(crate) const NONE_OFF: u8 = WIRE_CAPACITY as u8;
-
-// Refusals 9 and 10; n packets stay on the wire. An accepted step tells the handling.
-pub(crate) fn plan_effect(
-    k: MachineId,
-    u: ClientId,
-    e: Effect,
-    handling: Handling,
-    i: u8,
-    n: u8,
-) -> Plan
-    requires { n ≤ wire_capacity }
-    ensures { (s : LockState) → length (removed (packets s.wire) i) ≡ n
-        → Plans result s (telling handling (finish k u (verdict_of e) (removed (packets s.wire) i) s)) }
+// How many packets stay on the wire.
+#[tactic(auto, using(laws::specs::Shapes::length_packets, parts::specs::Writes::sized_less))]
+fn staying(w: &Wire, index: Option<u8>) -> usize
+    requires { (CanonicalWire w.now) × IfSome index (λ i. i < w.now.len) }
+    ensures few { result ≤ wire_capacity }
+    ensures all { result ≡ length (left_by index w.now) }
 {
-    if e.placed {
-        let m = sent_count(e.sends);
-        if n + m <= WIRE_CAPACITY as u8 {
-            Plan {
-                answer: Answer::Accepted,
-                handling,
-                index: i,
-                machine: k,
-                client: u,
-                effect: e,
-            }
-        } else {
-            refuse(Refusal::WireFull)
-        }
-    } else {
-        refuse(Refusal::CannotPlace)
+    match index {
+        None => w.len as usize,
+        Some(_) => w.len as usize - 1,
     }
 }
 
-#[tactic(auto, using(crate::specs::Plans::plans_refusal))]
-pub fn refuse(n: Refusal) -> Plan
-    ensures { (s : LockState) → Plans result s (refused n s) }
+// Refusals 9 and 10. An accepted step tells the handling.
+#[tactic(auto, using(crate::specs::Plans::plans_full, crate::specs::Plans::plans_effect), unfolding(model::specs::Changes::finish))]
+pub(crate) fn plan_effect(
+    s: &LockState,
+    machine: MachineId,
+    client: ClientId,
+    effect: Option<Effect>,
+    handling: Handling,
+    index: Option<u8>,
+) -> Result<Plan, Refusal>
+    requires { (CanonicalWire s.now.wire) × IfSome index (λ i. i < s.now.wire.len) }
+    ensures { Plans result s.now
+        (telling handling (finish machine client (verdict_of effect) (left_by index s.now.wire) s.now)) }
 {
-    let e = cannot_place();
-    Plan {
-        answer: Answer::Refused(n),
-        handling: Handling::None,
-        index: NONE_OFF,
-        machine: MachineId(0),
-        client: ClientId(0),
-        effect: e,
+    let Some(effect) = effect else {
+        return Err(Refusal::CannotPlace);
+    };
+    if staying(&s.wire, index) + effect.sends.count() > WIRE_CAPACITY {
+        return Err(Refusal::WireFull);
+    }
+    Ok(Plan {
+        handling,
+        index,
+        machine,
+        client,
+        effect,
+    })
+}
+
+// The wire without the packet at the index.
+#[tactic(auto, using(laws::specs::Shapes::wire_whole))]
+fn rest_of(w: &Wire, index: Option<u8>) -> Wire
+    requires { CanonicalWire w.now }
+    ensures { result ≡ wire_of (left_by index w.now) }
+{
+    match index {
+        None => *w,
+        Some(i) => take_off(*w, i),
     }
 }
 
 // An accepted step is made.
-pub fn carry_out(p: Plan, s: LockState) -> LockState
-    requires { (CanonicalWire s.wire) × (length (left_by p s) + length (sent_by p.effect.sends) ≤ wire_capacity) }
-    ensures { result ≡ carried_out p s }
+pub fn carry_out(p: &Plan, s: &LockState) -> LockState
+    requires { (CanonicalWire s.now.wire)
+        × (length (left_by p.now.index s.now.wire) + length (sent_by p.now.effect.sends) ≤ wire_capacity) }
+    ensures { result ≡ carried_out p.now s.now }
 {
-    apply(p.machine, p.client, p.effect, take_off(s.wire, p.index), s)
+    let site = p.effect.site;
+    let mut wire = rest_of(&s.wire, p.index);
+    post(&mut wire, p.effect.sends);
+    let agents = put_agent(s.agents, p.machine, site.slot);
+    let clients = put_client(s.clients, p.client, site.status, site.lost);
+    LockState {
+        decider: site.decider,
+        agents,
+        clients,
+        wire,
+    }
 }

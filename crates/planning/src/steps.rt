@@ -1,16 +1,20 @@
-// The steps on one lock's state, as plans: a rule's effect with its answer.
+// The steps on one lock's state, as plans: a rule's effect, or a refusal.
 ghost use Rattle.std.specs.Prelude.{◌≡◌, ◌<◌};
+ghost use Rattle.model.specs.Lists.{removed};
+ghost use Rattle.model.specs.States.{packets, machine_of};
+ghost use Rattle.model.specs.Changes.{site_of, finish, telling};
 ghost use Rattle.model.specs.Calls.{handled_at, machine_at, client_named, delivers, acquire_step, release_step, deliver_step, give_up_step, lose_step};
-ghost use Rattle.laws.specs.Shapes.{CanonicalQueue};
+ghost use Rattle.laws.specs.Shapes.{CanonicalWire, CanonicalQueue};
 ghost use Rattle.laws.specs.Formed.{Ready};
 ghost use Rattle.rules.specs.Effects.{verdict_of};
 ghost use Rattle.planning.specs.Plans.{Plans};
 
-use crate::plan::{NONE_OFF, Plan, plan_effect};
+use crate::plan::{Plan, plan_effect};
 use decider::at_decider;
 use machine::{at_machine, handling};
 use model::{
-    Address, AgentSlot, ClientId, Handling, LockState, MachineId, Message, Mode, Packet, Site,
+    Address, AgentSlot, ClientId, Handling, LockState, MachineId, Message, Mode, Packet, Refusal,
+    Site,
 };
 use parts::wire::packet_at;
 use rules::asking::acquire;
@@ -18,37 +22,43 @@ use rules::effect::Effect;
 use rules::leaving::{give_up, lose, machine_of, release};
 use rules::site::site_of;
 
-// n is the cluster's preference.
-pub fn plan_acquire(n: u8, s: LockState, c: ClientId, m: Mode) -> Plan
-    requires { Ready s }
-    ensures { Plans result s (acquire_step n s c m) }
+// A client's own call, by what its rule gives. No packet is taken off the wire, and no handling is told.
+#[tactic(auto, using(crate::specs::Plans::plans_quiet))]
+fn plan_call(s: &LockState, c: ClientId, effect: Option<Effect>) -> Result<Plan, Refusal>
+    requires { CanonicalWire s.now.wire }
+    ensures { Plans result s.now (finish (machine_of c) c (verdict_of effect) (packets s.now.wire) s.now) }
 {
-    let k = machine_of(c);
-    let v = site_of(n, s, k, c);
-    let e = acquire(v, c, m);
-    plan_effect(k, c, e, Handling::None, NONE_OFF, s.wire.len)
+    plan_effect(s, machine_of(c), c, effect, Handling::None, None)
+}
+
+// n is the cluster's preference.
+#[tactic(auto, unfolding(model::specs::Calls::acquire_step))]
+pub fn plan_acquire(n: u8, s: &LockState, c: ClientId, m: Mode) -> Result<Plan, Refusal>
+    requires { Ready s.now }
+    ensures { Plans result s.now (acquire_step n s.now c m) }
+{
+    let v = site_of(n, s, machine_of(c), c);
+    plan_call(s, c, acquire(v, c, m))
 }
 
 // A client that holds releases.
-pub fn plan_release(n: u8, s: LockState, c: ClientId) -> Plan
-    requires { Ready s }
-    ensures { Plans result s (release_step n s c) }
+#[tactic(auto, unfolding(model::specs::Calls::release_step))]
+pub fn plan_release(n: u8, s: &LockState, c: ClientId) -> Result<Plan, Refusal>
+    requires { Ready s.now }
+    ensures { Plans result s.now (release_step n s.now c) }
 {
-    let k = machine_of(c);
-    let v = site_of(n, s, k, c);
-    let e = release(v, c);
-    plan_effect(k, c, e, Handling::None, NONE_OFF, s.wire.len)
+    let v = site_of(n, s, machine_of(c), c);
+    plan_call(s, c, release(v, c))
 }
 
 // A client that waits gives up.
-pub fn plan_give_up(n: u8, s: LockState, c: ClientId) -> Plan
-    requires { Ready s }
-    ensures { Plans result s (give_up_step n s c) }
+#[tactic(auto, unfolding(model::specs::Calls::give_up_step))]
+pub fn plan_give_up(n: u8, s: &LockState, c: ClientId) -> Result<Plan, Refusal>
+    requires { Ready s.now }
+    ensures { Plans result s.now (give_up_step n s.now c) }
 {
-    let k = machine_of(c);
-    let v = site_of(n, s, k, c);
-    let e = give_up(v, c);
-    plan_effect(k, c, e, Handling::None, NONE_OFF, s.wire.len)
+    let v = site_of(n, s, machine_of(c), c);
+    plan_call(s, c, give_up(v, c))
 }
 
 // The machine and the client that a packet is about, delivered or lost.
@@ -66,23 +76,26 @@ fn client_named(m: Message) -> ClientId
 {
     match m {
         Message::Free => ClientId(0),
-        Message::Acquire {
-            client,
-            mode: _,
-            granted: _,
-        } => client,
-        Message::Grant { client, mode: _ } => client,
-        Message::Release { client } => client,
+        Message::Acquire { client, .. }
+        | Message::Grant { client, .. }
+        | Message::Release { client } => client,
     }
+}
+
+// What a packet's step looks at and may write.
+fn site_about(n: u8, s: &LockState, p: Packet) -> Site
+    ensures { result ≡ site_of n s.now (machine_at p.to) (client_named p.message) }
+{
+    site_of(n, s, machine_at(p.to), client_named(p.message))
 }
 
 // The packet p is delivered at its address.
 #[tactic(auto, unfolding(model::specs::Calls::delivers))]
-fn deliver(to: Address, v: Site, p: Packet) -> Effect
+fn deliver(v: Site, p: Packet) -> Option<Effect>
     requires { (CanonicalQueue v.slot.agent.queue) × (CanonicalQueue p.carried.agent.queue) }
-    ensures { verdict_of result ≡ delivers to v p }
+    ensures { verdict_of result ≡ delivers p.to v p }
 {
-    match to {
+    match p.to {
         Address::Decider => at_decider(v, p),
         Address::Machine(_) => at_machine(v, p),
     }
@@ -100,32 +113,40 @@ fn handled_at(to: Address, m: Message, x: AgentSlot) -> Handling
     }
 }
 
-pub fn plan_deliver(n: u8, s: LockState, i: u8) -> Plan
-    requires { (Ready s) × (i < s.wire.len) }
-    ensures { Plans result s (deliver_step n s i) }
+// A step that takes the packet p off the wire, at the index i, by what its rule gives.
+fn plan_packet(
+    s: &LockState,
+    i: u8,
+    p: Packet,
+    effect: Option<Effect>,
+    told: Handling,
+) -> Result<Plan, Refusal>
+    requires { (CanonicalWire s.now.wire) × (i < s.now.wire.len) }
+    ensures { Plans result s.now
+        (telling told
+        (finish (machine_at p.to) (client_named p.message) (verdict_of effect) (removed (packets s.now.wire) i) s.now)) }
+{
+    let c = client_named(p.message);
+    plan_effect(s, machine_at(p.to), c, effect, told, Some(i))
+}
+
+#[tactic(auto, unfolding(model::specs::Calls::deliver_step, model::specs::Calls::takes))]
+pub fn plan_deliver(n: u8, s: &LockState, i: u8) -> Result<Plan, Refusal>
+    requires { (Ready s.now) × (i < s.now.wire.len) }
+    ensures { Plans result s.now (deliver_step n s.now i) }
 {
     let p = packet_at(s.wire, i);
-    let to = p.to;
-    let m = p.message;
-    let k = machine_at(to);
-    let c = client_named(m);
-    let v = site_of(n, s, k, c);
-    let h = handled_at(to, m, v.slot);
-    let e = deliver(to, v, p);
-    plan_effect(k, c, e, h, i, s.wire.len - 1)
+    let v = site_about(n, s, p);
+    let told = handled_at(p.to, p.message, v.slot);
+    plan_packet(s, i, p, deliver(v, p), told)
 }
 
 // A packet that can be lost is.
-pub fn plan_lose(n: u8, s: LockState, i: u8) -> Plan
-    requires { (Ready s) × (i < s.wire.len) }
-    ensures { Plans result s (lose_step n s i) }
+#[tactic(auto, using(crate::specs::Plans::plans_quiet), unfolding(model::specs::Calls::lose_step, model::specs::Calls::drops))]
+pub fn plan_lose(n: u8, s: &LockState, i: u8) -> Result<Plan, Refusal>
+    requires { (Ready s.now) × (i < s.now.wire.len) }
+    ensures { Plans result s.now (lose_step n s.now i) }
 {
     let p = packet_at(s.wire, i);
-    let to = p.to;
-    let m = p.message;
-    let k = machine_at(to);
-    let c = client_named(m);
-    let v = site_of(n, s, k, c);
-    let e = lose(v);
-    plan_effect(k, c, e, Handling::None, i, s.wire.len - 1)
+    plan_packet(s, i, p, lose(site_about(n, s, p)), Handling::None)
 }

@@ -1,8 +1,0 @@
-use Rattle.model.specs.Calls.{release_step}
-use Rattle.planning.specs.Plans.{plans_call}
-use Rattle.planning.proofs.steps.plan_release.Goals as goal
-
-pub returns : goal.returns
-unfolding release_step
-returns c =
-    rw (c.release-e.ensures, c.site_of-v.ensures, c.machine_of-k.ensures) at (plans_call _ _ _ _ _ c.requires.wire (c.plan_effect.ensures c.args.s))
