@@ -5,7 +5,7 @@ use Rattle.std.proofs.Common.{le-leb}
 use Rattle.std.proofs.lemmas.Bool.{lt-leb}
 use Rattle.rules.specs.declared.effect.Effect.{Effect}
 use Rattle.planning.specs.declared.plan.Plan.{Plan}
-use Rattle.planning.specs.Names.{MachineId, ClientId, Packet, Wire, LockState, Refusal, WireFull, Accepted, Handling, Untold, Stepped}
+use Rattle.planning.specs.Names.{MachineId, ClientId, Packet, Wire, LockState, Refusal, WireFull, Accepted, Handling, Stepped}
 use Rattle.model.specs.Lists.{removed}
 use Rattle.model.specs.States.{wire_capacity, packets}
 use Rattle.model.specs.Changes.{Verdict, apply, accepted, refused, finish, telling}
@@ -32,7 +32,7 @@ Plans (Ok p) s t = Accepts p s t
 Plans (Err n) s t = refused n s ≡ t
 
 -- ---- the plan of a rule's effect
-module _ (k : MachineId) (c : ClientId) (e : Effect) (h : Handling) (s : LockState) where
+module _ (k : MachineId) (c : ClientId) (e : Effect) (h : Option Handling) (s : LockState) where
   pub plans_full : (i : Option ℕ) → wire_capacity < length (left_by i s.wire) + length (sent_by e.sends)
       → refused WireFull s ≡ telling h (finish k c (verdict_of (Some e)) (left_by i s.wire) s)
   unfolding finish
@@ -46,5 +46,5 @@ module _ (k : MachineId) (c : ClientId) (e : Effect) (h : Handling) (s : LockSta
 
 -- a step that tells no handling
 pub plans_quiet : (r : Result Plan Refusal) (s : LockState) (k : MachineId) (c : ClientId) (v : Verdict) (rest : List Packet)
-    → Plans r s (telling Untold (finish k c v rest s)) → Plans r s (finish k c v rest s)
+    → Plans r s (telling None (finish k c v rest s)) → Plans r s (finish k c v rest s)
 plans_quiet r s k c v rest h = rw (telling_none k c v rest s) at h

@@ -66,7 +66,7 @@ fn post(w: &mut Wire, sends: Sends)
 // concerned, and the effect.
 #[derive(Clone, Copy, Drop)]
 pub struct Plan {
-    pub handling: Handling,
+    pub handling: Option<Handling>,
     pub(crate) index: Option<u8>,
     pub(crate) machine: MachineId,
     pub(crate) client: ClientId,
@@ -93,7 +93,7 @@ pub(crate) fn plan_effect(
     machine: MachineId,
     client: ClientId,
     effect: Option<Effect>,
-    handling: Handling,
+    handling: Option<Handling>,
     index: Option<u8>,
 ) -> Result<Plan, Refusal>
     requires { (CanonicalWire s.now.wire) × IfSome index (λ i. i < s.now.wire.len) }

@@ -28,7 +28,7 @@ fn plan_call(s: &LockState, c: ClientId, effect: Option<Effect>) -> Result<Plan,
     requires { CanonicalWire s.now.wire }
     ensures { Plans result s.now (finish (machine_of c) c (verdict_of effect) (packets s.now.wire) s.now) }
 {
-    plan_effect(s, machine_of(c), c, effect, Handling::None, None)
+    plan_effect(s, machine_of(c), c, effect, None, None)
 }
 
 // n is the cluster's preference.
@@ -103,12 +103,12 @@ fn deliver(v: Site, p: Packet) -> Option<Effect>
 
 // What the delivery tells: a machine's handling. The decider tells none.
 #[tactic(auto, unfolding(model::specs::Calls::handled_at))]
-fn handled_at(to: Address, m: Message, x: AgentSlot) -> Handling
+fn handled_at(to: Address, m: Message, x: AgentSlot) -> Option<Handling>
     requires { CanonicalQueue x.agent.queue }
     ensures { result ≡ handled_at to m x }
 {
     match to {
-        Address::Decider => Handling::None,
+        Address::Decider => None,
         Address::Machine(_) => handling(m, x),
     }
 }
@@ -119,7 +119,7 @@ fn plan_packet(
     i: u8,
     p: Packet,
     effect: Option<Effect>,
-    told: Handling,
+    told: Option<Handling>,
 ) -> Result<Plan, Refusal>
     requires { (CanonicalWire s.now.wire) × (i < s.now.wire.len) }
     ensures { Plans result s.now
@@ -148,5 +148,5 @@ pub fn plan_lose(n: u8, s: &LockState, i: u8) -> Result<Plan, Refusal>
     ensures { Plans result s.now (lose_step n s.now i) }
 {
     let p = packet_at(s.wire, i);
-    plan_packet(s, i, p, lose(site_about(n, s, p)), Handling::None)
+    plan_packet(s, i, p, lose(site_about(n, s, p)), None)
 }
