@@ -9,7 +9,7 @@ ghost use Rattle.model.specs.Calls.{acquire, release, deliver, lose, give_up, pe
 
 use lock_calls::{lock_of, plan_call};
 use making::refuse_call;
-use model::{Answer, Call, Cluster, Handling, LOCKS, LockId, MachineId, Outcome, Refusal, TaskId};
+use model::{Call, Cluster, LOCKS, LockId, MachineId, Outcome, Refusal, TaskId};
 use planning::plan::carry_out;
 
 mod waiting;
@@ -80,26 +80,21 @@ pub fn give_up(x: Cluster, lock: LockId, machine: MachineId, task: TaskId) -> Ou
 }
 
 // A well-formed cluster, and the call's lock is one of it: the lock's state is written in its place where the call is accepted.
-fn perform_on(l: LockId, c: Call, x: Cluster) -> Outcome
+fn perform_on(l: LockId, c: Call, mut x: Cluster) -> Outcome
     requires { (well_formed x ≡ true) × ((l.0 < locks) × (l ≡ lock_of c)) }
     ensures { result ≡ perform c x }
 {
-    let mut y = x;
-    let i = l.0 as usize;
-    let s = y.locks[i];
-    let p = plan_call(x.preference, c, s);
-    let a = p.answer;
-    let handling = p.handling;
-    match a {
-        Answer::Accepted => {
-            y.locks[i] = carry_out(p, s);
+    let i = usize::from(l.0);
+    match plan_call(x.preference, c, &x.locks[i]) {
+        Ok(plan) => {
+            x.locks[i] = carry_out(&plan, &x.locks[i]);
+            Outcome {
+                answer: Ok(()),
+                handling: plan.handling,
+                cluster: x,
+            }
         }
-        Answer::Refused(_) => {}
-    }
-    Outcome {
-        answer: a,
-        handling,
-        cluster: y,
+        Err(refusal) => refuse_call(refusal, x),
     }
 }
 
@@ -107,14 +102,12 @@ fn perform_on(l: LockId, c: Call, x: Cluster) -> Outcome
 pub fn perform(c: Call, x: Cluster) -> Outcome
     ensures { result ≡ perform c x }
 {
-    if well_formed(x) {
-        let l = lock_of(c);
-        if l.0 < LOCKS as u8 {
-            perform_on(l, c, x)
-        } else {
-            refuse_call(Refusal::LockRange, x)
-        }
-    } else {
-        refuse_call(Refusal::Malformed, x)
+    if !well_formed(x) {
+        return refuse_call(Refusal::Malformed, x);
     }
+    let l = lock_of(c);
+    if LOCKS as u8 <= l.0 {
+        return refuse_call(Refusal::LockRange, x);
+    }
+    perform_on(l, c, x)
 }

@@ -1,28 +1,28 @@
 -- The calls on one lock of a cluster that is known to be well formed, when the lock's number is in range: what is left of each call
 -- is a step on that lock's state.
-use Rattle.std.specs.Prelude.{◌≡◌, refl, Bool, true, false, List, ◌∷◌, ℕ, ◌<◌, ◌≤◌, get_or, leb}
+use Rattle.std.specs.Prelude.{◌≡◌, refl, Bool, true, false, List, ◌∷◌, ℕ, ◌<◌, ◌≤◌, get_or, leb, Ok, Err, not, ◌||◌, eqb}
 use Rattle.std.proofs.Common.{ap, le-leb, leb-false, arith}
 use Rattle.std.proofs.lemmas.List.{set-get_or}
 use Rattle.std.proofs.lemmas.Bool.{lt-leb}
-use Rattle.lock_calls.specs.Names.{LockId, MachineId, TaskId, Refusal, Malformed, LockRange, MachineRange, TaskRange}
+use Rattle.lock_calls.specs.Names.{LockId, MachineId, TaskId, ClientId, Refusal, Malformed, LockRange, MachineRange, TaskRange, ModeRange}
 use Rattle.lock_calls.specs.Names.{Answer, Accepted, Refused, LockState, Cluster, Call, AcquireCall, ReleaseCall}
 use Rattle.lock_calls.specs.Names.{DeliverCall, LoseCall, GiveUpCall, Stepped, Outcome}
 use Rattle.model.specs.States.{locks, machines, tasks, client_of, mode_of, fresh_lock, lock_in}
 use Rattle.model.specs.WellFormed.{well_formed}
 use Rattle.model.specs.Changes.{refused}
 use Rattle.model.specs.Refusals.{Cause, ◌when◌, first}
-use Rattle.model.specs.Calls.{acquire_step, release_step, deliver_step, acquire_tests, release_tests, deliver_tests, causes, refusing, with_lock, settled}
+use Rattle.model.specs.Calls.{idle_tests, acquire_step, release_step, deliver_step, acquire_tests, release_tests, deliver_tests, causes, refusing, with_lock, settled}
 use Rattle.model.specs.Calls.{unless, acquire, release, deliver, lose, give_up, perform, lock_of, lose_step, give_up_step, lose_tests, give_up_tests}
 use Rattle.laws.specs.Formed.{lock_read}
 use Rattle.laws.specs.CallSteps.{step_of, step_in, step_refused}
 use Rattle.laws.specs.Clusters.{perform_formed}
 use Rattle.planning.specs.declared.plan.Plan.{Plan}
-use Rattle.planning.specs.Plans.{carried_out, Plans, plan_accepts, plan_refuses}
+use Rattle.planning.specs.Plans.{carried_out, Plans}
 
 -- ---- the tests that are left to a call on a lock's state, and then the step, in a cluster with the preference n
 -- the step r where the tests' answer accepts, else a refusal that leaves s
 unfoldable pub step_unless : Answer → LockState → Stepped → Stepped
-step_unless Accepted s r = r
+step_unless (Ok tt) s r = r
 step_unless (Refused n) s r = refused n s
 
 unfoldable pub acquire_on : ℕ → LockState → MachineId → TaskId → ℕ → Stepped
@@ -44,9 +44,13 @@ give_up_on n s k t = step_unless (first (give_up_tests s k t)) s (give_up_step n
 abbrev pub range_tests : MachineId → TaskId → List Cause → List Cause
 range_tests k t cs = (MachineRange when leb machines k.0) ∷ (TaskRange when leb tasks t.0) ∷ cs
 
+-- what follows them in an acquire
+abbrev pub mode_tests : LockState → ClientId → ℕ → List Cause
+mode_tests s c m = (ModeRange when not (eqb m 2 || eqb m 3)) ∷ idle_tests s c
+
 -- the answer where the first tests answer the one and those that follow the other
 abbrev pub further : Answer → Answer → Answer
-further Accepted a = a
+further (Ok tt) a = a
 further (Refused n) a = Refused n
 
 -- ---- a cause that does not hold
@@ -117,16 +121,15 @@ perform_whole c x e h = rw (perform_by c x) (rw (e, lt-leb locks (lock_of c).0 h
     written r = record { answer = r.answer; handling = r.handling; cluster = with_lock x (lock_of c) r.state }
 
     stepped : (a : Answer) → (step_in c x).answer ≡ a → settled a x (lock_of c) (step_in c x) ≡ written (step_in c x)
-    stepped Accepted q = rw q
+    stepped (Ok tt) q = rw q
     stepped (Refused r) q = rw (step_refused x.preference c s r q, set-get_or x.locks (lock_of c).0 fresh_lock)
 
     tested : (a : Answer) → unless a x (lock_of c) (step_in c x) ≡ written (step_unless a s (step_in c x))
-    tested Accepted = stepped (step_in c x).answer refl
+    tested (Ok tt) = stepped (step_in c x).answer refl
     tested (Refused n) = rw (set-get_or x.locks (lock_of c).0 fresh_lock)
 
 -- the call by its plan on the state of its lock l, read with any default: written where it accepts, the cluster left where it refuses
-module _ (c : Call) (x : Cluster) (l : LockId) (d : LockState) (f : (well_formed x ≡ true) × ((l.0 < locks) × (l ≡ lock_of c))) {p : Plan}
-    (g : Plans p (get_or x.locks l.0 d) (call_on x.preference c (get_or x.locks l.0 d))) where
+module _ (c : Call) (x : Cluster) (l : LockId) (d : LockState) (f : (well_formed x ≡ true) × ((l.0 < locks) × (l ≡ lock_of c))) where
   abbrev read : LockState
   read = get_or x.locks l.0 d
 
@@ -136,12 +139,12 @@ module _ (c : Call) (x : Cluster) (l : LockId) (d : LockState) (f : (well_formed
   whole : perform c x ≡ record { answer = called.answer; handling = called.handling; cluster = with_lock x l called.state }
   whole = rw (lock_read x l d f.0 f.1.0, f.1.1) (perform_whole c x f.0 (rw f.1.1 at f.1.0))
 
-  pub perform_accepts : p.answer ≡ Accepted → {t : LockState} → t ≡ carried_out p read
-      → record { answer = p.answer; handling = p.handling; cluster = with_lock x l t } ≡ perform c x
-  perform_accepts a e = rw (e, a, whole, ← plan_accepts g a)
+  pub perform_accepts : {p : Plan} → Plans (Ok p) read called
+      → record { answer = Accepted; handling = p.handling; cluster = with_lock x l (carried_out p read) } ≡ perform c x
+  perform_accepts g = rw (whole, ← g.ends)
 
-  pub perform_refuses : (n : Refusal) → p.answer ≡ Refused n → record { answer = p.answer; handling = p.handling; cluster = x } ≡ perform c x
-  perform_refuses n a = rw (a, whole, ← plan_refuses g n a) (rw (lock_read x l d f.0 f.1.0, set-get_or x.locks l.0 fresh_lock))
+  pub perform_refuses : {n : Refusal} → Plans (Err n) read called → refusing n x ≡ perform c x
+  perform_refuses g = rw (whole, ← g) (rw (lock_read x l d f.0 f.1.0, set-get_or x.locks l.0 fresh_lock))
 
 pub perform_written : (c : Call) (x : Cluster) → well_formed x ≡ true → (lock_of c).0 < locks → (perform c x).cluster ≡ written_by c x
 perform_written c x e h = ap (λ (o : Outcome). o.cluster) (perform_whole c x e h)

@@ -5,5 +5,6 @@ pub use Rattle.model.specs.declared.{Call.Call, Call.TheVariants.{Acquire as Acq
 pub use Rattle.model.specs.declared.{Call.TheVariants.{GiveUp as GiveUpCall}}
 pub use Rattle.model.specs.declared.{Refusal.Refusal}
 pub use Rattle.model.specs.declared.{Refusal.TheVariants.{Malformed, LockRange, MachineRange, TaskRange, ModeRange, NotIdle, StillNamed, NotHolding}}
-pub use Rattle.model.specs.declared.{Refusal.TheVariants.{IndexRange, CannotGiveUp, CannotLose}, Answer.Answer, Answer.TheVariants.{Accepted, Refused}}
+pub use Rattle.model.specs.declared.{Refusal.TheVariants.{IndexRange, CannotGiveUp, CannotLose}}
 pub use Rattle.model.specs.declared.{Stepped.Stepped, Outcome.Outcome}
+pub use Rattle.model.specs.Names.{Answer, Accepted, Refused}
