@@ -3,4 +3,4 @@ pub mod Names
 pub mod Arrays
 pub mod Writes
 pub mod Scans
-pub mod Sought
+pub mod Search

@@ -1,33 +1,13 @@
 -- Loops over the used part of an array, `take n xs`: what is left of it from j on, and a test over that.
-use Rattle.std.specs.Prelude.{◌≡◌, refl, Bool, true, false, ◌&&◌, List, [], ◌∷◌, ℕ, ◌+◌, ◌<◌, ◌≤◌, min, length, take, drop, get_or}
-use Rattle.std.proofs.Common.{sym, ◌∙◌, add-one, arith, length-take, drop_of_length-le, drop-cons, get_or-take, length-take-le, take-suc, take_all}
+use Rattle.std.specs.Prelude.{◌≡◌, refl, Bool, ◌&&◌, List, [], ◌∷◌, ℕ, ◌+◌, ◌<◌, ◌≤◌, min, length, take, drop, get_or}
+use Rattle.std.proofs.Common.{sym, ◌∙◌, add-one, arith, length-take, drop_of_length-le, drop-cons, get_or-take, length-take-le}
 use Rattle.std.proofs.Math.Bool.{and_assoc, and-true}
-use Rattle.model.specs.Names.{Nowhere, At}
-use Rattle.model.specs.Lists.{any, all, IsFirst}
-use Rattle.laws.specs.Lists.{none_end, at_get_or}
+use Rattle.model.specs.Lists.{all}
 
 module _ {A : Type 0} where
-  -- a loop over all of xs keeps `any p (drop j xs) ≡ any p xs`
-  module _ (p : A → Bool) (xs : List A) (j : ℕ) (d : A) where
-    pub any_hit : j < length xs → p (get_or xs j d) ≡ true → any p (drop j xs) ≡ true
-    any_hit h e = rw (drop-cons xs j d, e)
-
-    pub any_miss : j < length xs → p (get_or xs j d) ≡ false → any p (drop (j + 1) xs) ≡ any p (drop j xs)
-    any_miss h e = rw (add-one, drop-cons xs j d, e)
-
-    pub any_none : length xs ≤ j → any p (drop j xs) ≡ false
-    any_none h = rw drop_of_length-le
-
   -- the first of what is left of an array from j on
   pub all_more : (xs : List A) (j : ℕ) (d : A) → j < length xs → drop j xs ≡ get_or xs j d ∷ drop (j + 1) xs
   all_more xs j d k = rw add-one (drop-cons xs j d k)
-
-  -- a loop through xs has come to j, and none before it passes
-  pub record Seeking (p : A → Bool) (xs : List A) (j : ℕ) : Type 0 where
-    pub none : any p (take j xs) ≡ false
-
-  pub seeking : (p : A → Bool) (xs : List A) → Seeking p xs 0
-  seeking p xs = record { none = refl }
 
   -- of its first len slots, or of all s where these are fewer, and their end
   module _ (len : ℕ) (xs : List A) {m s : ℕ} (q : m ≡ min len s) (e : length xs ≡ s) where
@@ -39,22 +19,6 @@ module _ {A : Type 0} where
     pub in_use_end : (j : ℕ) → m ≤ j → drop j (take len xs) ≡ []
     in_use_end j k = let past : length (take len xs) ≤ j = omega (arith, length-take len xs, q, e, k) in drop_of_length-le (take len xs) past
 
-    -- and a loop that looks there for the first that passes
-    module _ {p : A → Bool} {j : ℕ} (i : Seeking p (take len xs) j) where
-      pub seek_hit : (d : A) → j < m → p (get_or xs j d) ≡ true → IsFirst p (take len xs) (At j)
-      seek_hit d k t =
-          let room : j < length (take len xs) = omega (arith, length-take len xs, q, e) in
-          (at_get_or p (take len xs) j d room ∙ rw (get_or-take len xs j d (omega (arith, q, k))) t, i.none)
-
-      pub seek_miss : (d : A) → j < m → p (get_or xs j d) ≡ false → Seeking p (take len xs) (j + 1)
-      seek_miss d k t =
-          let room : j < length (take len xs) = omega (arith, length-take len xs, q, e) in
-          let same : get_or (take len xs) j d ≡ get_or xs j d = get_or-take len xs j d (omega (arith, q, k)) in
-          record { none = rw (add-one, take-suc (take len xs) j d room, same) (none_end p (take j (take len xs)) (get_or xs j d) i.none t) }
-
-      pub seek_end : m ≤ j → IsFirst p (take len xs) Nowhere
-      seek_end k = rw (take_all j (take len xs) (omega (arith, length-take len xs, q, e, k))) at i.none
-
   -- and of the used part
   module _ (xs : List A) (n j : ℕ) (d : A) (k : n ≤ length xs) where
     whole : n ≡ min n (length xs)
@@ -65,16 +29,6 @@ module _ {A : Type 0} where
 
     pub used_end : n ≤ j → drop j (take n xs) ≡ []
     used_end h = in_use_end n xs whole refl j h
-
-  module _ (p : A → Bool) (xs : List A) (n j : ℕ) (d : A) (k : n ≤ length xs) where
-    pub used_hit : j < n → p (get_or xs j d) ≡ true → any p (drop j (take n xs)) ≡ true
-    used_hit h e = rw (used_more xs n j d k h, e)
-
-    pub used_miss : j < n → p (get_or xs j d) ≡ false → any p (drop (j + 1) (take n xs)) ≡ any p (drop j (take n xs))
-    used_miss h e = rw (used_more xs n j d k h, e)
-
-    pub used_none : n ≤ j → any p (drop j (take n xs)) ≡ false
-    used_none h = rw (used_end xs n j d k h)
 
   -- a loop that joins a test of each of xs: what it has, with the tests of all that are left, is what it began with
   pub record Joins (p : A → Bool) (xs : List A) (ok₀ : Bool) (j₀ : ℕ) (ok : Bool) (j : ℕ) : Type 0 where

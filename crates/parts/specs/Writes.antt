@@ -1,12 +1,12 @@
 -- What the code writes into a wire or a queue, as what is done to its list.
-use Rattle.std.specs.Prelude.{◌≡◌, refl, Bool, true, false, List, [], ◌∷◌, ◌++◌, ℕ, zero, suc, ◌+◌, ◌-◌, ◌<◌, ◌≤◌, length, take, set, leb}
-use Rattle.std.proofs.Common.{ap, arith, length-append, leb-true, leb-false}
+use Rattle.std.specs.Prelude.{◌≡◌, refl, List, [], ◌∷◌, ◌++◌, ℕ, zero, suc, ◌+◌, ◌-◌, ◌<◌, ◌≤◌, length, take, set}
+use Rattle.std.proofs.Common.{ap, arith, length-append}
 use Rattle.parts.specs.Names.{Waiter, Queue, Packet, Wire}
-use Rattle.model.specs.Lists.{pick, removed}
+use Rattle.model.specs.Lists.{removed}
 use Rattle.model.specs.States.{queue_capacity, blank_waiter, queue_of, waiters, wire_capacity, blank_packet, wire_of, packets}
 use Rattle.laws.specs.Lists.{length_removed}
 use Rattle.laws.specs.Shapes.{CanonicalWire, CanonicalQueue, length_packets, wire_whole}
-use Rattle.parts.specs.Arrays.{cut_used, cut_at, cut_at_in, cut_at_out, slid, canonical_push, canonical_cut, canonical_front}
+use Rattle.parts.specs.Arrays.{cut_used, slid, canonical_push, canonical_cut, canonical_front}
 
 -- the length of a list with one more, and with one less
 sized_more : {A : Type 0} (xs : List A) (a : A) (n : ℕ) → length xs ≡ n → length (xs ++ a ∷ []) ≡ n + 1
@@ -25,10 +25,10 @@ pub queued_at : (q : Queue) (a : Waiter) → CanonicalQueue q → q.len < queue_
 unfolding waiters queue_of
 queued_at q a h k = rw (sized_more (take q.len q.slots) a q.len h.size, canonical_push queue_capacity blank_waiter q.slots q.len h a k)
 
-taken_off_lem : (w : Wire) (i : ℕ) → CanonicalWire w → i < w.len
+pub cut_off : (w : Wire) (i : ℕ) → CanonicalWire w → i < w.len
     → record { slots = cut_used w.slots i w.len blank_packet; len = w.len - 1 } ≡ wire_of (removed (packets w) i)
 unfolding packets wire_of
-taken_off_lem w i h k = rw (sized_less (take w.len w.slots) i w.len h.size k, canonical_cut wire_capacity blank_packet w.slots w.len h i k)
+cut_off w i h k = rw (sized_less (take w.len w.slots) i w.len h.size k, canonical_cut wire_capacity blank_packet w.slots w.len h i k)
 
 pub removed_none : (ps : List Packet) (i : ℕ) → length ps ≤ i → removed ps i ≡ ps
 unfolding removed
@@ -36,19 +36,8 @@ removed_none [] i h = refl
 removed_none (p ∷ ps) zero h = absurd (omega arith)
 removed_none (p ∷ ps) (suc i) h = ap (λ (qs : List Packet). p ∷ qs) (removed_none ps i (omega arith))
 
--- the packet at i, if there is one, is off the wire
-pub cut_off : (w : Wire) (i : ℕ) → CanonicalWire w
-    → record { slots = cut_at w.slots i w.len blank_packet; len = pick (leb w.len i) w.len (w.len - 1) } ≡ wire_of (removed (packets w) i)
-cut_off w i h = go (leb w.len i) refl
-  where
-    go : (b : Bool) → leb w.len i ≡ b
-        → record { slots = cut_at w.slots i w.len blank_packet; len = pick (leb w.len i) w.len (w.len - 1) } ≡ wire_of (removed (packets w) i)
-    go true e =
-        let k : w.len ≤ i = leb-true w.len i e in
-        rw (e, cut_at_out w.slots i w.len blank_packet k, removed_none (packets w) i (omega (arith, length_packets w h))) (wire_whole w h)
-    go false e =
-        let k : i < w.len = leb-false w.len i e in
-        rw (e, cut_at_in w.slots i w.len blank_packet k) (taken_off_lem w i h k)
+pub none_off : (w : Wire) (i : ℕ) → CanonicalWire w → w.len ≤ i → w ≡ wire_of (removed (packets w) i)
+none_off w i h k = rw (removed_none (packets w) i (omega (arith, length_packets w h))) (wire_whole w h)
 
 pub cut_out : (q : Queue) (i : ℕ) → CanonicalQueue q → i < q.len
     → record { slots = cut_used q.slots i q.len blank_waiter; len = q.len - 1 } ≡ queue_of (removed (waiters q) i)

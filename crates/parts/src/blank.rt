@@ -20,9 +20,8 @@ pub fn blank_waiter() -> Waiter
 pub fn empty_queue() -> Queue
     ensures { result ≡ queue_of [] }
 {
-    let w = blank_waiter();
     Queue {
-        slots: [w; QUEUE_CAPACITY],
+        slots: [blank_waiter(); QUEUE_CAPACITY],
         len: 0,
     }
 }
@@ -30,11 +29,10 @@ pub fn empty_queue() -> Queue
 pub fn new_agent(m: Mode) -> Agent
     ensures { result ≡ new_agent m }
 {
-    let q = empty_queue();
     Agent {
         mode: m,
         holders: [false; CLIENTS],
-        queue: q,
+        queue: empty_queue(),
         incarnation: 0,
     }
 }
@@ -52,10 +50,9 @@ pub fn some_agent(a: Agent) -> AgentSlot
 pub fn no_agent() -> AgentSlot
     ensures { result ≡ no_agent }
 {
-    let a = new_agent(Mode::Exclusive);
     AgentSlot {
         present: false,
-        agent: a,
+        agent: new_agent(Mode::Exclusive),
     }
 }
 
@@ -73,13 +70,12 @@ pub fn unowned() -> Decider
 pub fn plain_packet(m: Message, t: Address) -> Packet
     ensures { result ≡ plain m t }
 {
-    let x = no_agent();
     Packet {
         message: m,
         to: t,
         rejected: false,
         circled: 0,
-        carried: x,
+        carried: no_agent(),
     }
 }
 
@@ -87,13 +83,9 @@ pub fn plain_packet(m: Message, t: Address) -> Packet
 pub fn carrying(m: Message, t: Address, a: Agent) -> Packet
     ensures { result ≡ carrying m t a }
 {
-    let x = some_agent(a);
     Packet {
-        message: m,
-        to: t,
-        rejected: false,
-        circled: 0,
-        carried: x,
+        carried: some_agent(a),
+        ..plain_packet(m, t)
     }
 }
 
@@ -101,14 +93,10 @@ pub fn carrying(m: Message, t: Address, a: Agent) -> Packet
 pub fn resent(p: Packet, t: Address, b: bool) -> Packet
     ensures { result ≡ resent p t b }
 {
-    let m = p.message;
-    let x = p.carried;
     Packet {
-        message: m,
         to: t,
         rejected: b,
-        circled: p.circled,
-        carried: x,
+        ..p
     }
 }
 

@@ -4,6 +4,7 @@
 pub mod blank;
 pub mod holders;
 pub mod search;
+pub mod slots;
 pub mod state;
 pub mod used;
 pub mod wire;

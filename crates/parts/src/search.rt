@@ -1,103 +1,49 @@
-// The search of a wire for a packet of a client. It ends at the first hit, and takes any wire, made by hand or not.
-ghost use Rattle.std.specs.Prelude.{◌≡◌, take};
+// The searches of a wire for a packet and of a queue for a client. They end at the first hit, and take any wire and queue, made by hand or not.
+ghost use Rattle.std.specs.Prelude.{◌≡◌, Bool};
 ghost use Rattle.model.specs.Lists.{IsFirst};
-ghost use Rattle.model.specs.States.{packets};
+ghost use Rattle.model.specs.States.{packets, waiters};
 ghost use Rattle.model.specs.Calls.{names};
 ghost use Rattle.model.specs.Trace.{is_grant_for};
 ghost use Rattle.model.specs.Reasons.{is_request_of};
-ghost use Rattle.parts.specs.Sought.{is_sought};
+ghost use Rattle.model.specs.WellFormed.{is_client};
+ghost use Rattle.parts.specs.Search.{Decides};
 
-use crate::used::used;
+use crate::slots::first_index;
 use crate::wire::message_names;
-use model::{ClientId, Message, Packet, WIRE_CAPACITY, Wire};
+use model::{ClientId, Message, Packet, Queue, Wire};
 
-// Which packet of the client: any that names it, its request, its grant, its grant that was rejected.
-#[derive(Clone, Copy, Drop)]
-pub enum Sought {
-    Named,
-    Request,
-    Grant,
-    RejectedGrant,
-}
-
-// A marked ACQUIRE is of a client that was granted before.
-fn is_request_of(c: ClientId, m: Message) -> bool
-    ensures { result ≡ is_request_of c m }
+// The first packet of the wire that passes.
+#[tactic(auto, unfolding(model::specs::States::packets))]
+pub fn first_packet<P: Fn(&Packet) -> bool>(w: &Wire, passes: P) -> Option<u8>
+    requires { P.IsAlwaysCallable passes }
+    ensures { (p : Packet → Bool) → Decides P.Fn passes p → IsFirst p (packets w.now) result }
 {
-    match m {
-        Message::Free => false,
-        Message::Acquire {
-            client,
-            mode: _,
-            granted,
-        } => { if granted { false } else { c.0 == client.0 } }
-        Message::Grant { client: _, mode: _ } => false,
-        Message::Release { client: _ } => false,
-    }
-}
-
-fn is_grant_for(c: ClientId, m: Message) -> bool
-    ensures { result ≡ is_grant_for c m }
-{
-    match m {
-        Message::Free => false,
-        Message::Acquire {
-            client: _,
-            mode: _,
-            granted: _,
-        } => false,
-        Message::Grant { client, mode: _ } => c.0 == client.0,
-        Message::Release { client: _ } => false,
-    }
-}
-
-fn is_sought(k: Sought, c: ClientId, p: Packet) -> bool
-    ensures { result ≡ is_sought k c p }
-{
-    let m = p.message;
-    match k {
-        Sought::Named => message_names(m, c),
-        Sought::Request => is_request_of(c, m),
-        Sought::Grant => {
-            if p.rejected {
-                false
-            } else {
-                is_grant_for(c, m)
-            }
-        }
-        Sought::RejectedGrant => {
-            if p.rejected {
-                is_grant_for(c, m)
-            } else {
-                false
-            }
-        }
-    }
-}
-
-// The first of the packets in use that is sought.
-pub fn first_packet(a: [Packet; WIRE_CAPACITY], len: u8, k: Sought, c: ClientId) -> Option<u8>
-    ensures { IsFirst (is_sought k c) (take len a) result }
-{
-    let n = used(len, WIRE_CAPACITY);
-    let mut index: u8 = 0;
-    let mut j: usize = 0;
-    while j < n {
-        let p = a[j];
-        if is_sought(k, c, p) {
-            return Some(index);
-        }
-        index += 1;
-        j += 1;
-    }
-    None
+    first_index(&w.slots, w.len, passes)
 }
 
 // The first packet of the wire that names the client.
-#[tactic(auto, unfolding(model::specs::States::packets))]
 pub fn first_naming(w: Wire, c: ClientId) -> Option<u8>
     ensures { IsFirst (names c) (packets w) result }
 {
-    let a = w.slots;
-    first_packet(a, w.len, Sought::Named, c)
+    first_packet(&w, |p| message_names(p.message, c))
+}
+
+// Where the client stands in the queue.
+pub fn first_waiter(q: &Queue, c: ClientId) -> Option<u8>
+    ensures { IsFirst (is_client c) (waiters q.now) result }
+{
+    first_index(&q.slots, q.len, |w| w.client == c)
+}
+
+// A marked ACQUIRE is of a client that was granted before.
+pub fn is_request_of(c: ClientId, m: Message) -> bool
+    ensures { result ≡ is_request_of c m }
+{
+    matches!(m, Message::Acquire { client, granted: false, .. } if client == c)
+}
+
+pub fn is_grant_for(c: ClientId, m: Message) -> bool
+    ensures { result ≡ is_grant_for c m }
+{
+    matches!(m, Message::Grant { client, .. } if client == c)
 }

@@ -4,86 +4,64 @@ ghost use Rattle.model.specs.States.{no_agent, idle, is_waiting};
 ghost use Rattle.model.specs.Calls.{is_holding};
 
 use crate::blank::no_agent;
+use crate::slots::put;
 use model::{AgentSlot, CLIENTS, ClientId, ClientState, MACHINES, MachineId, Status};
 
-pub fn agent_at(a: [AgentSlot; MACHINES], k: MachineId) -> AgentSlot
-    ensures { result ≡ get_or a k.0 no_agent }
+const IDLE: ClientState = ClientState {
+    status: Status::Idle,
+    lost: false,
+};
+
+pub fn agent_at(a: &[AgentSlot; MACHINES], k: MachineId) -> AgentSlot
+    ensures { result ≡ get_or a.now k.0 no_agent }
 {
-    let i = k.0 as usize;
-    if i < MACHINES { a[i] } else { no_agent() }
+    a.get(usize::from(k.0)).copied().unwrap_or(no_agent())
 }
 
 pub fn put_agent(a: [AgentSlot; MACHINES], k: MachineId, x: AgentSlot) -> [AgentSlot; MACHINES]
     ensures { result ≡ set a k.0 x }
 {
-    let mut b = a;
-    let i = k.0 as usize;
-    if i < MACHINES {
-        b[i] = x;
-    }
-    b
+    put(a, k.0, x)
 }
 
-pub fn status_at(a: [ClientState; CLIENTS], c: ClientId) -> Status
-    ensures { result ≡ (get_or a c.0 idle).status }
+fn client_at(a: &[ClientState; CLIENTS], c: ClientId) -> ClientState
+    ensures { result ≡ get_or a.now c.0 idle }
 {
-    let i = c.0 as usize;
-    if i < CLIENTS {
-        let x = a[i];
-        x.status
-    } else {
-        Status::Idle
-    }
+    a.get(usize::from(c.0)).copied().unwrap_or(IDLE)
+}
+
+pub fn status_at(a: &[ClientState; CLIENTS], c: ClientId) -> Status
+    ensures { result ≡ (get_or a.now c.0 idle).status }
+{
+    client_at(a, c).status
 }
 
 // Whether it has the note of a lost GRANT.
-pub fn note_at(a: [ClientState; CLIENTS], c: ClientId) -> bool
-    ensures { result ≡ (get_or a c.0 idle).lost }
+pub fn note_at(a: &[ClientState; CLIENTS], c: ClientId) -> bool
+    ensures { result ≡ (get_or a.now c.0 idle).lost }
 {
-    let i = c.0 as usize;
-    if i < CLIENTS {
-        let x = a[i];
-        x.lost
-    } else {
-        false
-    }
+    client_at(a, c).lost
 }
 
 pub fn put_client(
     a: [ClientState; CLIENTS],
     c: ClientId,
-    st: Status,
-    n: bool,
+    status: Status,
+    lost: bool,
 ) -> [ClientState; CLIENTS]
-    ensures { result ≡ set a c.0 (record { status = st; lost = n }) }
+    ensures { result ≡ set a c.0 (record { status = status; lost = lost }) }
 {
-    let mut b = a;
-    let i = c.0 as usize;
-    if i < CLIENTS {
-        b[i] = ClientState {
-            status: st,
-            lost: n,
-        };
-    }
-    b
+    put(a, c.0, ClientState { status, lost })
 }
 
-pub fn is_holding(st: Status) -> bool
-    ensures { result ≡ is_holding st }
+pub fn is_holding(status: Status) -> bool
+    ensures { result ≡ is_holding status }
 {
-    match st {
-        Status::Idle => false,
-        Status::Waiting(_) => false,
-        Status::Holding(_) => true,
-    }
+    matches!(status, Status::Holding(_))
 }
 
-pub fn is_waiting(st: Status) -> bool
-    ensures { result ≡ is_waiting st }
+pub fn is_waiting(status: Status) -> bool
+    ensures { result ≡ is_waiting status }
 {
-    match st {
-        Status::Idle => false,
-        Status::Waiting(_) => true,
-        Status::Holding(_) => false,
-    }
+    matches!(status, Status::Waiting(_))
 }

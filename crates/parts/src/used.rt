@@ -4,6 +4,5 @@ ghost use Rattle.std.specs.Prelude.{◌≡◌, min};
 pub fn used(len: u8, slots: usize) -> usize
     ensures { result ≡ min len slots }
 {
-    let n = len as usize;
-    if n < slots { n } else { slots }
+    slots.min(usize::from(len))
 }
