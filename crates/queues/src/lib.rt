@@ -1,29 +1,27 @@
 // A queue of waiters, in the first slots of an array.
 #![tactic(auto)]
 
-ghost use Rattle.std.specs.Prelude.{◌≡◌, ◌&&◌, [], ◌∷◌, ◌++◌, ◌<◌, ◌≤◌, take, get_or};
-ghost use Rattle.model.specs.Lists.{any, removed, IsFirst};
+ghost use Rattle.std.specs.Prelude.{◌≡◌, ◌&&◌, [], ◌∷◌, ◌++◌, ◌<◌, get_or};
+ghost use Rattle.model.specs.Lists.{any, removed};
 ghost use Rattle.model.specs.States.{queue_capacity, blank_waiter, queue_of, waiters, prefers_writers};
 ghost use Rattle.model.specs.WellFormed.{is_client};
-ghost use Rattle.model.specs.Asking.{no_room, is_writer, writer_in};
+ghost use Rattle.model.specs.Asking.{no_room, writer_in};
 ghost use Rattle.model.specs.AtMachine.{taken_off};
 ghost use Rattle.laws.specs.Shapes.{CanonicalQueue};
-ghost use Rattle.parts.specs.Arrays.{cut_used, slid};
 
 use model::{Agent, ClientId, QUEUE_CAPACITY, Queue, Waiter};
 use parts::blank::blank_waiter;
 use parts::holders::is_shared;
-use parts::used::used;
+use parts::search::first_waiter;
+use parts::slots::{cut, in_use};
 
 #[tactic(auto, using(parts::specs::Writes::queued_at))]
 pub fn push(mut q: Queue, w: Waiter) -> Queue
     requires { (CanonicalQueue q) × (q.len < queue_capacity) }
     ensures { result ≡ queue_of (waiters q ++ w ∷ []) }
 {
-    let n = q.len;
-    let j = n as usize;
-    q.slots[j] = w;
-    q.len = n + 1;
+    q.slots[usize::from(q.len)] = w;
+    q.len += 1;
     q
 }
 
@@ -35,21 +33,6 @@ pub fn first(q: Queue) -> Waiter
     q.slots[0]
 }
 
-// The one at i of n waiters is out, those behind it move up, and the freed slot is blank.
-fn cut_waiters(a: [Waiter; QUEUE_CAPACITY], i: usize, n: usize) -> [Waiter; QUEUE_CAPACITY]
-    requires { (i < n) × (n ≤ queue_capacity) }
-    ensures { result ≡ cut_used a i n blank_waiter }
-{
-    let mut b = a;
-    let mut j = i;
-    while j + 1 < n {
-        b[j] = b[j + 1];
-        j += 1;
-    }
-    b[j] = blank_waiter();
-    b
-}
-
 // The queue without its first waiter.
 pub fn pop(q: Queue) -> Queue
     requires { (CanonicalQueue q) × (0 < q.len) }
@@ -58,48 +41,17 @@ pub fn pop(q: Queue) -> Queue
     without_at(q, 0)
 }
 
-// The first n waiters move down by one, and w stands before them.
-fn slide_waiters(a: [Waiter; QUEUE_CAPACITY], n: usize, w: Waiter) -> [Waiter; QUEUE_CAPACITY]
-    requires { n < queue_capacity }
-    ensures { result ≡ slid a n w }
-{
-    let mut b = a;
-    let mut j = n;
-    while 0 < j {
-        b[j] = b[j - 1];
-        j -= 1;
-    }
-    b[0] = w;
-    b
-}
-
-#[tactic(auto, using(parts::specs::Writes::fronted))]
-pub fn push_front(q: Queue, w: Waiter) -> Queue
+// The waiters move down by one, and w stands before them.
+#[tactic(auto, using(parts::specs::Writes::fronted, parts::specs::Arrays::slid_copied))]
+pub fn push_front(mut q: Queue, w: Waiter) -> Queue
     requires { (CanonicalQueue q) × (q.len < queue_capacity) }
     ensures { result ≡ queue_of (w ∷ waiters q) }
 {
-    let a = q.slots;
-    let n = q.len;
-    let b = slide_waiters(a, n as usize, w);
-    Queue {
-        slots: b,
-        len: n + 1,
-    }
-}
-
-fn waiting_in(a: [Waiter; QUEUE_CAPACITY], n: usize, c: ClientId) -> bool
-    requires { n ≤ queue_capacity }
-    ensures { result ≡ any (is_client c) (take n a) }
-{
-    let mut j: usize = 0;
-    while j < n {
-        let w = a[j];
-        if w.client.0 == c.0 {
-            return true;
-        }
-        j += 1;
-    }
-    false
+    let n = usize::from(q.len);
+    q.slots.copy_within(0..n, 1);
+    q.slots[0] = w;
+    q.len += 1;
+    q
 }
 
 // The client stands in the agent's queue.
@@ -108,27 +60,9 @@ pub fn queued(a: Agent, c: ClientId) -> bool
     requires { CanonicalQueue a.queue }
     ensures { result ≡ any (is_client c) (waiters a.queue) }
 {
-    let q = a.queue;
-    let slots = q.slots;
-    waiting_in(slots, q.len as usize, c)
-}
-
-// Where it stands among the waiters in use.
-fn place_in(a: [Waiter; QUEUE_CAPACITY], len: u8, c: ClientId) -> Option<u8>
-    ensures { IsFirst (is_client c) (take len a) result }
-{
-    let n = used(len, QUEUE_CAPACITY);
-    let mut index: u8 = 0;
-    let mut j: usize = 0;
-    while j < n {
-        let w = a[j];
-        if w.client.0 == c.0 {
-            return Some(index);
-        }
-        index += 1;
-        j += 1;
-    }
-    None
+    in_use(&a.queue.slots, a.queue.len)
+        .iter()
+        .any(|w| w.client == c)
 }
 
 // The queue without the client.
@@ -136,26 +70,21 @@ pub fn taken_off(q: Queue, c: ClientId) -> Queue
     requires { CanonicalQueue q }
     ensures { result ≡ queue_of (taken_off c (waiters q)) }
 {
-    let a = q.slots;
-    let n = q.len;
-    match place_in(a, n, c) {
+    match first_waiter(&q, c) {
         None => q,
         Some(i) => without_at(q, i),
     }
 }
 
 #[tactic(auto, using(parts::specs::Writes::cut_out))]
-fn without_at(q: Queue, i: u8) -> Queue
+fn without_at(mut q: Queue, i: u8) -> Queue
     requires { (CanonicalQueue q) × (i < q.len) }
     ensures { result ≡ queue_of (removed (waiters q) i) }
 {
-    let a = q.slots;
     let n = q.len;
-    let b = cut_waiters(a, i as usize, n as usize);
-    Queue {
-        slots: b,
-        len: n - 1,
-    }
+    cut(&mut q.slots, i, n, blank_waiter());
+    q.len -= 1;
+    q
 }
 
 // The agent's queue cannot take the client: it stands there already, or the queue is full.
@@ -164,31 +93,7 @@ pub fn no_room(a: Agent, c: ClientId) -> bool
     requires { CanonicalQueue a.queue }
     ensures { result ≡ no_room a c }
 {
-    let q = a.queue;
-    let slots = q.slots;
-    let n = q.len as usize;
-    if waiting_in(slots, n, c) {
-        true
-    } else {
-        QUEUE_CAPACITY <= n
-    }
-}
-
-fn any_writer(a: [Waiter; QUEUE_CAPACITY], n: usize) -> bool
-    requires { n ≤ queue_capacity }
-    ensures { result ≡ any is_writer (take n a) }
-{
-    let mut j: usize = 0;
-    while j < n {
-        let w = a[j];
-        let m = w.mode;
-        let shared = is_shared(m);
-        if !shared {
-            return true;
-        }
-        j += 1;
-    }
-    false
+    queued(a, c) || QUEUE_CAPACITY <= usize::from(a.queue.len)
 }
 
 // A writer in the agent's queue comes first, in a cluster with the preference p: readers do not pass it.
@@ -197,11 +102,8 @@ pub fn writer_first(p: u8, a: Agent) -> bool
     requires { CanonicalQueue a.queue }
     ensures { result ≡ (prefers_writers p && writer_in a) }
 {
-    if p == 1 {
-        let q = a.queue;
-        let slots = q.slots;
-        any_writer(slots, q.len as usize)
-    } else {
-        false
-    }
+    p == 1
+        && in_use(&a.queue.slots, a.queue.len)
+            .iter()
+            .any(|w| !is_shared(w.mode))
 }
