@@ -1,159 +1,127 @@
 // Why a client waits, in any state of a lock, made by hand or not: the first true of document 02's reasons, each at its lowest index or machine.
 #![tactic(auto)]
 
-ghost use Rattle.std.specs.Prelude.{◌≡◌, take};
+ghost use Rattle.std.specs.Prelude.{◌≡◌, ◌≤◌, ℕ, length};
+ghost use Rattle.model.specs.declared.{AgentSlot.AgentSlot, Reason.Reason};
 ghost use Rattle.model.specs.declared.Reason.TheVariants.{Carried};
-ghost use Rattle.model.specs.Lists.{IsFirst};
-ghost use Rattle.model.specs.WellFormed.{is_client};
 ghost use Rattle.model.specs.Reasons.{first_true, reasons_in, reason_in};
 ghost use Rattle.reasons.specs.Searching.{ahead_in, seek_queues, on_machine, itself, inside, queue_reason, lost_reason, other_reason};
 
 use model::{
-    AgentSlot, ClientId, LockState, MACHINES, MachineId, Packet, QUEUE_CAPACITY, Reason,
-    ReasonAnswer, Refusal, WIRE_CAPACITY, Waiter,
+    AgentSlot, ClientId, LockState, MachineId, Packet, Reason, ReasonAnswer, Refusal,
 };
-use parts::search::{Sought, first_packet};
+use parts::search::{first_packet, first_waiter, is_grant_for, is_request_of};
+use parts::slots::in_use;
 use parts::state::{is_waiting, note_at, status_at};
-use parts::used::used;
-
-fn first_waiter(a: [Waiter; QUEUE_CAPACITY], len: u8, c: ClientId) -> Option<u8>
-    ensures { IsFirst (is_client c) (take len a) result }
-{
-    let n = used(len, QUEUE_CAPACITY);
-    let mut ahead: u8 = 0;
-    let mut j: usize = 0;
-    while j < n {
-        let w = a[j];
-        if w.client.0 == c.0 {
-            return Some(ahead);
-        }
-        ahead += 1;
-        j += 1;
-    }
-    None
-}
 
 // How many are ahead of the client, where an agent is there and has it in its queue.
-fn ahead_in(c: ClientId, x: AgentSlot) -> Option<u8>
-    ensures { result ≡ ahead_in c x }
+fn ahead_in(c: ClientId, x: &AgentSlot) -> Option<u8>
+    ensures { result ≡ ahead_in c x.now }
 {
     if x.present {
-        let a = x.agent;
-        let q = a.queue;
-        let slots = q.slots;
-        first_waiter(slots, q.len, c)
+        first_waiter(&x.agent.queue, c)
     } else {
         None
     }
 }
 
-fn on_machines(a: [AgentSlot; MACHINES], c: ClientId) -> ReasonAnswer
-    ensures { result ≡ seek_queues c itself on_machine 0 a }
-{
-    let mut j: usize = 0;
-    while j < MACHINES {
-        let x = a[j];
-        let f = ahead_in(c, x);
-        match f {
-            Some(ahead) => {
-                return Ok(Reason::Queued {
-                    machine: MachineId(j as u8),
-                    ahead,
-                });
-            }
-            None => {}
-        }
-        j += 1;
-    }
-    Err(Refusal::NotWaiting)
+// Where an agent may be: on a machine, or inside a packet.
+trait Place {
+    ghost slot_of: { Self → AgentSlot };
+    ghost reason_of: { ℕ → ℕ → Reason };
+
+    fn slot(&self) -> &AgentSlot
+        ensures { result.now ≡ slot_of self.now };
+
+    // The reason of who stands in the queue there, at the place with this index.
+    fn reason(index: u8, ahead: u8) -> Reason
+        ensures { result ≡ reason_of index ahead };
 }
 
-fn in_packets(a: [Packet; WIRE_CAPACITY], len: u8, c: ClientId) -> ReasonAnswer
-    ensures { result ≡ seek_queues c inside Carried 0 (take len a) }
-{
-    let n = used(len, WIRE_CAPACITY);
-    let mut j: usize = 0;
-    while j < n {
-        let p = a[j];
-        let x = p.carried;
-        let f = ahead_in(c, x);
-        match f {
-            Some(ahead) => {
-                return Ok(Reason::Carried {
-                    index: j as u8,
-                    ahead,
-                });
-            }
-            None => {}
+impl Place for AgentSlot {
+    ghost slot_of = { itself };
+    ghost reason_of = { on_machine };
+
+    fn slot(&self) -> &AgentSlot {
+        self
+    }
+
+    fn reason(index: u8, ahead: u8) -> Reason {
+        Reason::Queued {
+            machine: MachineId(index),
+            ahead,
         }
-        j += 1;
+    }
+}
+
+impl Place for Packet {
+    ghost slot_of = { inside };
+    ghost reason_of = { Carried };
+
+    fn slot(&self) -> &AgentSlot {
+        &self.carried
+    }
+
+    fn reason(index: u8, ahead: u8) -> Reason {
+        Reason::Carried { index, ahead }
+    }
+}
+
+// The first place in whose queue the client stands.
+fn first_queue<P: Place>(places: &[P], c: ClientId) -> ReasonAnswer
+    requires { length places.now ≤ 256 }
+    ensures { result ≡ seek_queues c P.slot_of P.reason_of 0 places.now }
+{
+    for (i, place) in places.iter().enumerate() {
+        if let Some(ahead) = ahead_in(c, place.slot()) {
+            return Ok(P::reason(i as u8, ahead));
+        }
     }
     Err(Refusal::NotWaiting)
 }
 
 // Agents on machines come first, then those inside packets.
 #[tactic(auto, unfolding(model::specs::States::packets))]
-fn first_in_queues(s: LockState, c: ClientId) -> ReasonAnswer
-    ensures { result ≡ queue_reason s c }
+fn first_in_queues(s: &LockState, c: ClientId) -> ReasonAnswer
+    ensures { result ≡ queue_reason s.now c }
 {
-    let agents = s.agents;
-    let w = s.wire;
-    let a = w.slots;
-    let queued = on_machines(agents, c);
-    match queued {
-        Ok(r) => Ok(r),
-        Err(_) => in_packets(a, w.len, c),
-    }
+    first_queue(&s.agents, c).or_else(|_| first_queue(in_use(&s.wire.slots, s.wire.len), c))
 }
 
 // The note of a lost GRANT: the last of the reasons.
 fn grant_lost(b: bool) -> ReasonAnswer
     ensures { result ≡ lost_reason b }
 {
-    if b {
-        Ok(Reason::GrantLost)
-    } else {
-        Err(Refusal::NotWaiting)
-    }
+    b.then_some(Reason::GrantLost).ok_or(Refusal::NotWaiting)
 }
 
 // Queues come before the note.
-fn first_in_state(s: LockState, c: ClientId) -> ReasonAnswer
-    ensures { result ≡ other_reason s c }
+fn first_in_state(s: &LockState, c: ClientId) -> ReasonAnswer
+    ensures { result ≡ other_reason s.now c }
 {
-    let clients = s.clients;
-    let queued = first_in_queues(s, c);
-    match queued {
-        Ok(r) => Ok(r),
-        Err(_) => grant_lost(note_at(clients, c)),
-    }
+    first_in_queues(s, c).or_else(|_| grant_lost(note_at(&s.clients, c)))
 }
 
 // Packets of the client come before queues.
-fn first_true(s: LockState, c: ClientId) -> ReasonAnswer
-    ensures { result ≡ first_true s c (reasons_in s) }
+fn first_true(s: &LockState, c: ClientId) -> ReasonAnswer
+    ensures { result ≡ first_true s.now c (reasons_in s.now) }
 {
-    let w = s.wire;
-    let a = w.slots;
-    let asked = first_packet(a, w.len, Sought::Request, c);
-    match asked {
-        Some(index) => {
-            return Ok(Reason::Requested { index });
-        }
-        None => {}
+    if let Some(index) = first_packet(&s.wire, |p| is_request_of(c, p.message)) {
+        return Ok(Reason::Requested { index });
     }
-    let granted = first_packet(a, w.len, Sought::Grant, c);
-    match granted {
-        Some(index) => {
-            return Ok(Reason::Granted { index });
-        }
-        None => {}
+    if let Some(index) = first_packet(
+        &s.wire,
+        |p| !p.rejected && is_grant_for(c, p.message),
+    ) {
+        return Ok(Reason::Granted { index });
     }
-    let rejected = first_packet(a, w.len, Sought::RejectedGrant, c);
-    match rejected {
-        Some(index) => Ok(Reason::Rejected { index }),
-        None => first_in_state(s, c),
+    if let Some(index) = first_packet(
+        &s.wire,
+        |p| p.rejected && is_grant_for(c, p.message),
+    ) {
+        return Ok(Reason::Rejected { index });
     }
+    first_in_state(s, c)
 }
 
 // The reason, in one lock's state.
@@ -161,9 +129,8 @@ fn first_true(s: LockState, c: ClientId) -> ReasonAnswer
 pub fn reason_in(s: LockState, c: ClientId) -> ReasonAnswer
     ensures { result ≡ reason_in s c }
 {
-    let clients = s.clients;
-    if is_waiting(status_at(clients, c)) {
-        first_true(s, c)
+    if is_waiting(status_at(&s.clients, c)) {
+        first_true(&s, c)
     } else {
         Err(Refusal::NotWaiting)
     }
