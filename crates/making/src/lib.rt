@@ -6,18 +6,17 @@ ghost use Rattle.model.specs.States.{wire_of, fresh_lock, fresh_with};
 ghost use Rattle.model.specs.Calls.{refusing, fresh};
 
 use model::{
-    CLIENTS, ClientState, Cluster, LOCKS, LockState, MACHINES, Outcome,
-    PREFERENCES, Refusal, Status, WIRE_CAPACITY, Wire,
+    CLIENTS, Cluster, LOCKS, LockState, MACHINES, Outcome, PREFERENCES, Refusal,
+    WIRE_CAPACITY, Wire,
 };
-use parts::blank::{blank_packet, no_agent, unowned};
+use parts::blank::{IDLE, blank_packet, no_agent, unowned};
 
 #[tactic(auto, unfolding(model::specs::States::wire_of, model::specs::Lists::padded))]
 fn empty_wire() -> Wire
     ensures { result ≡ wire_of [] }
 {
-    let p = blank_packet();
     Wire {
-        slots: [p; WIRE_CAPACITY],
+        slots: [blank_packet(); WIRE_CAPACITY],
         len: 0,
     }
 }
@@ -26,18 +25,11 @@ fn empty_wire() -> Wire
 fn fresh_lock() -> LockState
     ensures { result ≡ fresh_lock }
 {
-    let d = unowned();
-    let x = no_agent();
-    let c = ClientState {
-        status: Status::Idle,
-        lost: false,
-    };
-    let w = empty_wire();
     LockState {
-        decider: d,
-        agents: [x; MACHINES],
-        clients: [c; CLIENTS],
-        wire: w,
+        wire: empty_wire(),
+        decider: unowned(),
+        agents: [no_agent(); MACHINES],
+        clients: [IDLE; CLIENTS],
     }
 }
 
@@ -45,10 +37,9 @@ fn fresh_lock() -> LockState
 fn fresh_with(n: u8) -> Cluster
     ensures { result ≡ fresh_with n }
 {
-    let s = fresh_lock();
     Cluster {
         preference: n,
-        locks: [s; LOCKS],
+        locks: [fresh_lock(); LOCKS],
     }
 }
 

@@ -9,26 +9,15 @@ module _ {A : Type 0} where
   pub all_more : (xs : List A) (j : ℕ) (d : A) → j < length xs → drop j xs ≡ get_or xs j d ∷ drop (j + 1) xs
   all_more xs j d k = rw add-one (drop-cons xs j d k)
 
-  -- of its first len slots, or of all s where these are fewer, and their end
-  module _ (len : ℕ) (xs : List A) {m s : ℕ} (q : m ≡ min len s) (e : length xs ≡ s) where
-    pub in_use_more : (j : ℕ) (d : A) → j < m → drop j (take len xs) ≡ get_or xs j d ∷ drop (j + 1) (take len xs)
-    in_use_more j d k =
-        let room : j < length (take len xs) = omega (arith, length-take len xs, q, e) in
-        rw (sym (get_or-take len xs j d (omega (arith, q, k)))) (all_more (take len xs) j d room)
-
-    pub in_use_end : (j : ℕ) → m ≤ j → drop j (take len xs) ≡ []
-    in_use_end j k = let past : length (take len xs) ≤ j = omega (arith, length-take len xs, q, e, k) in drop_of_length-le (take len xs) past
-
-  -- and of the used part
+  -- and of its used part
   module _ (xs : List A) (n j : ℕ) (d : A) (k : n ≤ length xs) where
-    whole : n ≡ min n (length xs)
-    whole = omega (arith, k)
-
     pub used_more : j < n → drop j (take n xs) ≡ get_or xs j d ∷ drop (j + 1) (take n xs)
-    used_more h = in_use_more n xs whole refl j d h
+    used_more h =
+        let room : j < length (take n xs) = omega (arith, length-take-le n xs k) in
+        rw (sym (get_or-take n xs j d h)) (all_more (take n xs) j d room)
 
     pub used_end : n ≤ j → drop j (take n xs) ≡ []
-    used_end h = in_use_end n xs whole refl j h
+    used_end h = let past : length (take n xs) ≤ j = omega (arith, length-take-le n xs k, h) in drop_of_length-le (take n xs) past
 
   -- a loop that joins a test of each of xs: what it has, with the tests of all that are left, is what it began with
   pub record Joins (p : A → Bool) (xs : List A) (ok₀ : Bool) (j₀ : ℕ) (ok : Bool) (j : ℕ) : Type 0 where

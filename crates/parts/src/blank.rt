@@ -3,8 +3,13 @@ ghost use Rattle.std.specs.Prelude.{◌≡◌, []};
 ghost use Rattle.model.specs.States.{blank_waiter, queue_of, new_agent, some_agent, no_agent, plain, carrying, resent, blank_packet, unowned};
 
 use model::{
-    Address, Agent, AgentSlot, CLIENTS, ClientId, Decider, Message, Mode, Owner, Packet,
-    QUEUE_CAPACITY, Queue, Waiter,
+    Address, Agent, AgentSlot, CLIENTS, ClientId, ClientState, Decider, Message, Mode, Owner,
+    Packet, QUEUE_CAPACITY, Queue, Status, Waiter,
+};
+
+pub const IDLE: ClientState = ClientState {
+    status: Status::Idle,
+    lost: false,
 };
 
 pub fn blank_waiter() -> Waiter

@@ -3,14 +3,9 @@ ghost use Rattle.std.specs.Prelude.{◌≡◌, set, get_or};
 ghost use Rattle.model.specs.States.{no_agent, idle, is_waiting};
 ghost use Rattle.model.specs.Calls.{is_holding};
 
-use crate::blank::no_agent;
+use crate::blank::{IDLE, no_agent};
 use crate::slots::put;
 use model::{AgentSlot, CLIENTS, ClientId, ClientState, MACHINES, MachineId, Status};
-
-const IDLE: ClientState = ClientState {
-    status: Status::Idle,
-    lost: false,
-};
 
 pub fn agent_at(a: &[AgentSlot; MACHINES], k: MachineId) -> AgentSlot
     ensures { result ≡ get_or a.now k.0 no_agent }

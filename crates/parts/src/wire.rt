@@ -24,9 +24,9 @@ pub fn take_off(mut w: Wire, i: u8) -> Wire
 }
 
 #[tactic(auto, using(laws::specs::Shapes::packet_is))]
-pub fn packet_at(w: Wire, i: u8) -> Packet
-    requires { (CanonicalWire w) × (i < w.len) }
-    ensures { result ≡ get_or (packets w) i blank_packet }
+pub fn packet_at(w: &Wire, i: u8) -> Packet
+    requires { (CanonicalWire w.now) × (i < w.now.len) }
+    ensures { result ≡ get_or (packets w.now) i blank_packet }
 {
     w.slots[usize::from(i)]
 }

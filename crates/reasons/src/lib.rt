@@ -5,11 +5,9 @@ ghost use Rattle.std.specs.Prelude.{◌≡◌, ◌≤◌, ℕ, length};
 ghost use Rattle.model.specs.declared.{AgentSlot.AgentSlot, Reason.Reason};
 ghost use Rattle.model.specs.declared.Reason.TheVariants.{Carried};
 ghost use Rattle.model.specs.Reasons.{first_true, reasons_in, reason_in};
-ghost use Rattle.reasons.specs.Searching.{ahead_in, seek_queues, on_machine, itself, inside, queue_reason, lost_reason, other_reason};
+ghost use Rattle.reasons.specs.Searching.{ahead_in, seek_queues, on_machine, itself, inside, lost_reason, other_reason};
 
-use model::{
-    AgentSlot, ClientId, LockState, MachineId, Packet, Reason, ReasonAnswer, Refusal,
-};
+use model::{AgentSlot, ClientId, LockState, MachineId, Packet, Reason, ReasonAnswer, Refusal};
 use parts::search::{first_packet, first_waiter, is_grant_for, is_request_of};
 use parts::slots::in_use;
 use parts::state::{is_waiting, note_at, status_at};
@@ -28,6 +26,7 @@ fn ahead_in(c: ClientId, x: &AgentSlot) -> Option<u8>
 // Where an agent may be: on a machine, or inside a packet.
 trait Place {
     ghost slot_of: { Self → AgentSlot };
+
     ghost reason_of: { ℕ → ℕ → Reason };
 
     fn slot(&self) -> &AgentSlot
@@ -40,6 +39,7 @@ trait Place {
 
 impl Place for AgentSlot {
     ghost slot_of = { itself };
+
     ghost reason_of = { on_machine };
 
     fn slot(&self) -> &AgentSlot {
@@ -56,6 +56,7 @@ impl Place for AgentSlot {
 
 impl Place for Packet {
     ghost slot_of = { inside };
+
     ghost reason_of = { Carried };
 
     fn slot(&self) -> &AgentSlot {
@@ -80,26 +81,21 @@ fn first_queue<P: Place>(places: &[P], c: ClientId) -> ReasonAnswer
     Err(Refusal::NotWaiting)
 }
 
-// Agents on machines come first, then those inside packets.
-#[tactic(auto, unfolding(model::specs::States::packets))]
-fn first_in_queues(s: &LockState, c: ClientId) -> ReasonAnswer
-    ensures { result ≡ queue_reason s.now c }
-{
-    first_queue(&s.agents, c).or_else(|_| first_queue(in_use(&s.wire.slots, s.wire.len), c))
-}
-
-// The note of a lost GRANT: the last of the reasons.
+// The note of a lost GRANT.
 fn grant_lost(b: bool) -> ReasonAnswer
     ensures { result ≡ lost_reason b }
 {
     b.then_some(Reason::GrantLost).ok_or(Refusal::NotWaiting)
 }
 
-// Queues come before the note.
+// Agents on machines come first, then those inside packets; the note is the last of the reasons.
+#[tactic(auto, unfolding(model::specs::States::packets))]
 fn first_in_state(s: &LockState, c: ClientId) -> ReasonAnswer
     ensures { result ≡ other_reason s.now c }
 {
-    first_in_queues(s, c).or_else(|_| grant_lost(note_at(&s.clients, c)))
+    first_queue(&s.agents, c)
+        .or_else(|_| first_queue(in_use(&s.wire.slots, s.wire.len), c))
+        .or_else(|_| grant_lost(note_at(&s.clients, c)))
 }
 
 // Packets of the client come before queues.
@@ -109,16 +105,10 @@ fn first_true(s: &LockState, c: ClientId) -> ReasonAnswer
     if let Some(index) = first_packet(&s.wire, |p| is_request_of(c, p.message)) {
         return Ok(Reason::Requested { index });
     }
-    if let Some(index) = first_packet(
-        &s.wire,
-        |p| !p.rejected && is_grant_for(c, p.message),
-    ) {
+    if let Some(index) = first_packet(&s.wire, |p| !p.rejected && is_grant_for(c, p.message)) {
         return Ok(Reason::Granted { index });
     }
-    if let Some(index) = first_packet(
-        &s.wire,
-        |p| p.rejected && is_grant_for(c, p.message),
-    ) {
+    if let Some(index) = first_packet(&s.wire, |p| p.rejected && is_grant_for(c, p.message)) {
         return Ok(Reason::Rejected { index });
     }
     first_in_state(s, c)
@@ -126,11 +116,11 @@ fn first_true(s: &LockState, c: ClientId) -> ReasonAnswer
 
 // The reason, in one lock's state.
 #[tactic(auto, unfolding(model::specs::Reasons::reason_in))]
-pub fn reason_in(s: LockState, c: ClientId) -> ReasonAnswer
-    ensures { result ≡ reason_in s c }
+pub fn reason_in(s: &LockState, c: ClientId) -> ReasonAnswer
+    ensures { result ≡ reason_in s.now c }
 {
     if is_waiting(status_at(&s.clients, c)) {
-        first_true(&s, c)
+        first_true(s, c)
     } else {
         Err(Refusal::NotWaiting)
     }

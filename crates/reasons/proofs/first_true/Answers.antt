@@ -3,7 +3,6 @@ use Rattle.model.specs.Names.{Nowhere, At}
 use Rattle.model.specs.States.{packets}
 use Rattle.model.specs.Reasons.{requests, grants, grant_rejected}
 use Rattle.laws.specs.Finding.{first_is}
-use Rattle.parts.specs.Search.{Decides}
 use Rattle.reasons.specs.Searching.{by_kind}
 use Rattle.reasons.proofs.first_true.Goals as goal
 
