@@ -1,75 +1,51 @@
 -- Well-formedness: the one pass over a queue that tests ranges and that no client stands twice.
-use Rattle.std.specs.Prelude.{◌≡◌, refl, Bool, true, false, ◌&&◌, ◌||◌, List, [], ◌∷◌, ℕ, zero, suc, ◌+◌, ◌<◌, ◌≤◌}
-use Rattle.std.specs.Prelude.{length, take, drop, get_or, set, replicate, eqb, leb}
-use Rattle.std.proofs.Common.{sym, ◌∙◌, arith, length-set, get_or-set_same, get_or-set_other}
+use Rattle.std.specs.Prelude.{◌≡◌, refl, Bool, true, false, ◌&&◌, ◌||◌, Option, List, [], ◌∷◌, ◌++◌, ℕ, zero, suc, ◌+◌, ◌<◌, ◌≤◌}
+use Rattle.std.specs.List.{list_all, FoldsTo}
+use Rattle.std.specs.Fn.{Called}
+use Rattle.std.specs.Iterator.{Drains, YieldsThen}
+use Rattle.std.specs.Option.{MatchOption}
+use Rattle.std.proofs.lemmas.Iterator.{YieldsList-from_slice}
+use Rattle.std.proofs.lemmas.Iterator.Search.{all_from_yields_List}
+use denote.Ref.{Bor}
+use Rattle.std.proofs.lemmas.Fn.{fronts, fold_over, slice_gives}
+use denote.Param.Members.{Mut}
+use Rattle.std.specs.Prelude.{length, drop, get_or, set, replicate}
+use Rattle.std.proofs.Common.{Iter, sym, ◌∙◌, arith, drop_of_length-le, length-set, get_or-set_same, get_or-set_other}
 use Rattle.std.proofs.Math.Bool.{not, and-true, and-false, and_assoc}
 use Rattle.std.proofs.Math.Decide.{ℕ_discrete}
-use borrow.Author.Tests.{leb-true, ltb-true, lt-ltb, le-ltb, eq-eqb, ne_eqb}
+use borrow.Author.Tests.{ltb-true, lt-ltb, le-ltb, eq-eqb, ne_eqb}
 use Rattle.model.specs.declared.ClientId.{ClientId}
 use Rattle.model.specs.declared.Waiter.{Waiter}
-use Rattle.model.specs.declared.Agent.{Agent}
-use Rattle.model.specs.declared.Packet.{Packet}
 use Rattle.model.specs.Lists.{any, all}
-use Rattle.model.specs.States.{clients, queue_capacity, is_shared}
-use Rattle.model.specs.WellFormed.{shaped, is_client, distinct, waiter_in_range, is_blank_waiter, is_blank_agent, is_free, to_decider, is_blank_packet}
-use Rattle.laws.specs.Tests.{and_left, and_right, bool_cases}
-use Rattle.parts.specs.Scans.{used_more, used_end, Joins, joins_all}
+use Rattle.model.specs.States.{clients}
+use Rattle.model.specs.WellFormed.{is_client, distinct, waiter_in_range}
+use Rattle.laws.specs.Tests.{bool_cases}
+use Rattle.parts.specs.Scans.{all_more}
 
--- r: the test's outcome in the code
-pub shaped_short : {A : Type 0} (n : ℕ) (p : A → Bool) (slots : List A) (len : ℕ) {r : Bool} → r ≡ shaped n p slots len → r ≡ true → len ≤ n
-unfolding shaped
-shaped_short n p slots len q e = leb-true len n (and_left (leb len n) _ (and_right (eqb (length slots) n) _ (sym q ∙ e)))
+-- a chain that joins a test of each, and one that ends at the first that fails
+all_snoc : {A : Type 0} (p : A → Bool) (xs : List A) (x : A) → all p (xs ++ x ∷ []) ≡ (all p xs && p x)
+all_snoc p [] x = and-true (p x)
+all_snoc p (y ∷ xs) x = rw (all_snoc p xs x) (sym (and_assoc (p y) (all p xs) (p x)))
 
--- a loop that joined the tests of all of an array
-pub joins_whole : {A : Type 0} {p : A → Bool} {xs : List A} {ok₀ ok : Bool} {j₀ j n : ℕ} → Joins p xs ok₀ j₀ ok j → length xs ≡ n → n ≤ j
-    → ok ≡ (eqb (length xs) n && (ok₀ && all p (drop j₀ xs)))
-joins_whole i e h = rw (eq-eqb _ _ e) (joins_all i (omega arith))
+pub fold_all : {A F : Type 0} (p : A → Bool) (s : Iter A) {g : Mut F (Bool × (Bor A × Unit {0})) Bool} {f : F} {r : Bool}
+    → (ys : List (Bor A)) × (f' : F) × Drains fronts s ys × FoldsTo {P = F × Bool} (λ q y q'. Called g q.0 (q.1, (y, tt)) q'.1 q'.0) (f, true) ys (f', r)
+    → ((a : Bool) (y : Bor A) (b : Bool) (f' : F) → Called g f (a, (y, tt)) b f' → (b ≡ (a && p y.now)) × (f' ≡ f))
+    → r ≡ all p s.rest.now
+fold_all p s {g = g} {f = f} {r = r} ran h =
+    fold_over fronts (λ y. y.now) g (λ xs ok. ok ≡ all p xs) f
+    (λ xs a y b f' j k. let e = h a y b f' k in (e.0 ∙ rw j (sym (all_snoc p xs y.now)), e.1))
+    s s.rest.now true r (slice_gives s) refl ran
 
--- ---- a blank agent and a blank packet, by tests made one after the other: the first that fails decides
-module _ (a : Agent) where
-  abbrev unheld : Bool
-  unheld = eqb (length a.holders) clients && all not a.holders
+listed : {A : Type 0} (p : A → Bool) (xs : List A) → list_all p xs ≡ all p xs
+listed p [] = refl
+listed p (x ∷ xs) = rw (listed p xs)
 
-  abbrev empty : Bool
-  empty = shaped queue_capacity is_blank_waiter a.queue.slots 0
-
-  abbrev plainly : Bool
-  plainly = eqb a.queue.len 0 && eqb a.incarnation 0
-
-  grouped : (not (is_shared a.mode) && (unheld && (empty && plainly))) ≡ is_blank_agent a
-  unfolding is_blank_agent
-  grouped = rw (and_assoc (eqb (length a.holders) clients) (all not a.holders) (empty && plainly))
-
-  pub agent_blank : unheld ≡ true → empty ≡ true → (not (is_shared a.mode) && plainly) ≡ is_blank_agent a
-  agent_blank h q = rw (← grouped, h, q)
-
-  pub agent_queued : unheld ≡ true → empty ≡ false → false ≡ is_blank_agent a
-  agent_queued h q = rw (← grouped, h, q, and-false (not (is_shared a.mode)))
-
-  pub agent_held : unheld ≡ false → false ≡ is_blank_agent a
-  agent_held h = rw (← grouped, h, and-false (not (is_shared a.mode)))
-
-and_front : (a b c d e f : Bool) → ((a && (b && (c && (d && e)))) && f) ≡ (a && (b && (c && (d && (e && f)))))
-and_front true true true true e f = refl
-and_front true true true false e f = refl
-and_front true true false d e f = refl
-and_front true false c d e f = refl
-and_front false b c d e f = refl
-
-module _ (p : Packet) where
-  -- all but the agent inside
-  abbrev blank_head : Bool
-  blank_head = is_free p.message && (to_decider p.to && (not p.rejected && (eqb p.circled 0 && not p.carried.present)))
-
-  headed : (blank_head && is_blank_agent p.carried.agent) ≡ is_blank_packet p
-  unfolding is_blank_packet
-  headed = and_front (is_free p.message) (to_decider p.to) (not p.rejected) (eqb p.circled 0) (not p.carried.present) _
-
-  pub packet_by_agent : blank_head ≡ true → is_blank_agent p.carried.agent ≡ is_blank_packet p
-  packet_by_agent h = rw (← headed, h)
-
-  pub packet_by_head : blank_head ≡ false → false ≡ is_blank_packet p
-  packet_by_head h = rw (← headed, h)
+pub all_all : {A F : Type 0} (p : A → Bool) (s : Iter A) {g : Mut F (Bor A × Unit {0}) Bool} {f : F} {r : Bool} {u : Iter A}
+    → (ys : List (Bor A)) × (o : Option (Bor A)) × (f' : F) × YieldsThen fronts s ys o u × FoldsTo (λ q y q'. Called g q (y, tt) true q') f ys f'
+    × MatchOption o (r ≡ true) (λ y. (r ≡ false) × ((h : F) × Called g f' (y, tt) false h))
+    → ((y : Bor A) (b : Bool) (f' : F) → Called g f (y, tt) b f' → (f' ≡ f) × (b ≡ p y.now))
+    → r ≡ all p s.rest.now
+all_all p s {f = f} {r = r} {u = u} ran h = all_from_yields_List p u f r ran (YieldsList-from_slice s.rest.now refl) h ∙ listed p s.rest.now
 
 -- the waiter's client is not in the set
 abbrev pub is_new : List Bool → Waiter → Bool
@@ -132,21 +108,21 @@ all_unseen (w ∷ ws) = rw (none_seen clients w.client.0) (all_unseen ws)
 pub pass_whole : (ws : List Waiter) → all_new (replicate clients false) ws ≡ (all waiter_in_range ws && distinct ws)
 pass_whole ws = rw (one_pass (replicate clients false) ws refl, all_unseen ws, and-true (distinct ws))
 
--- a loop over the first n keeps `all_new seen (drop j (take n xs))`
-module _ (xs : List Waiter) (n j : ℕ) (d : Waiter) (seen : List Bool) {b : Bool} (i : all_new seen (drop j (take n xs)) ≡ b) (k : n ≤ length xs) where
-  pub pass_far : j < n → clients ≤ (get_or xs j d).client.0 → false ≡ b
+-- a loop over xs keeps `all_new seen (drop j xs)`
+module _ (xs : List Waiter) (j : ℕ) (d : Waiter) (seen : List Bool) {b : Bool} (i : all_new seen (drop j xs) ≡ b) where
+  pub pass_far : j < length xs → clients ≤ (get_or xs j d).client.0 → false ≡ b
   unfolding all_new
-  pass_far h q = rw (used_more xs n j d k h, le-ltb (get_or xs j d).client.0 clients q) at i
+  pass_far h q = rw (all_more xs j d h, le-ltb (get_or xs j d).client.0 clients q) at i
 
-  module _ (h : j < n) (q : (get_or xs j d).client.0 < clients) where
+  module _ (h : j < length xs) (q : (get_or xs j d).client.0 < clients) where
     pub pass_twice : get_or seen (get_or xs j d).client.0 false ≡ true → false ≡ b
     unfolding all_new
-    pass_twice e = rw (used_more xs n j d k h, lt-ltb (get_or xs j d).client.0 clients q, e) at i
+    pass_twice e = rw (all_more xs j d h, lt-ltb (get_or xs j d).client.0 clients q, e) at i
 
-    pub pass_next : get_or seen (get_or xs j d).client.0 false ≡ false → all_new (set seen (get_or xs j d).client.0 true) (drop (j + 1) (take n xs)) ≡ b
+    pub pass_next : get_or seen (get_or xs j d).client.0 false ≡ false → all_new (set seen (get_or xs j d).client.0 true) (drop (j + 1) xs) ≡ b
     unfolding all_new
-    pass_next e = rw (used_more xs n j d k h, lt-ltb (get_or xs j d).client.0 clients q, e) at i
+    pass_next e = rw (all_more xs j d h, lt-ltb (get_or xs j d).client.0 clients q, e) at i
 
-  pub pass_end : n ≤ j → true ≡ b
+  pub pass_end : length xs ≤ j → true ≡ b
   unfolding all_new
-  pass_end h = rw (used_end xs n j d k h) at i
+  pass_end h = rw (drop_of_length-le xs h) at i

@@ -1,190 +1,104 @@
-// Well-formedness: the test of refusal 11. A loop joins its tests by `&` and has no early return: nearly always all of them hold, and a loop without a way
-// out is compiled to a few wide operations. Between two loops stands an `if`: joined by `&`, what they found would be put together bit by bit.
+// Well-formedness: the test of refusal 11. Holders and waiters are joined by a fold with `&`: nearly always all of them pass, and a fold, which has no way
+// out, is compiled to a few wide operations, where `all` looks at one byte after the other. Two folds are joined by `&&`: with `&`, what they found would be
+// put together bit by bit.
 #![tactic(auto)]
 
-ghost use Rattle.std.specs.Prelude.{◌≡◌, ◌&&◌, ◌||◌, not, ◌≤◌, length, take, eqb};
+ghost use Rattle.std.specs.Prelude.{◌≡◌, ◌&&◌, ◌||◌, not, length, take, drop, eqb};
 ghost use Rattle.model.specs.Lists.{all};
-ghost use Rattle.model.specs.States.{locks, machines, clients, queue_capacity, wire_capacity, is_shared};
-ghost use Rattle.model.specs.declared.Message.TheVariants.{Free};
-ghost use Rattle.model.specs.WellFormed.{client_in_range, owner_in_range, decider_formed, address_in_range, shaped, is_blank_waiter, distinct, waiter_in_range};
+ghost use Rattle.model.specs.States.{locks, machines, clients, is_shared};
+ghost use Rattle.model.specs.WellFormed.{client_in_range, owner_in_range, decider_formed, address_in_range, is_blank_waiter, distinct, waiter_in_range};
 ghost use Rattle.model.specs.WellFormed.{queue_formed, agent_formed, is_blank_agent, slot_formed, to_decider};
-ghost use Rattle.model.specs.WellFormed.{message_formed, circled_formed, packet_formed, is_free};
+ghost use Rattle.model.specs.WellFormed.{message_formed, circled_formed, packet_formed};
 ghost use Rattle.model.specs.WellFormed.{is_blank_packet, wire_formed, client_formed, lock_formed, well_formed};
 
 use model::{
     Address, Agent, AgentSlot, CLIENTS, ClientId, ClientState, Cluster, Decider, LOCKS, LockState,
-    MACHINES, Message, Mode, Owner, PREFERENCES, Packet, QUEUE_CAPACITY, Queue, WIRE_CAPACITY,
-    Waiter, Wire,
+    MACHINES, Message, Mode, Owner, PREFERENCES, Packet, QUEUE_CAPACITY, Queue, Status,
+    WIRE_CAPACITY, Waiter, Wire,
 };
-use parts::state::is_waiting;
 
 // ---- blank slots
-fn is_exclusive(m: Mode) -> bool
-    ensures { result ≡ not (is_shared m) }
-{
-    match m {
-        Mode::Exclusive => true,
-        Mode::Shared => false,
-    }
-}
-
 #[tactic(auto, unfolding(model::specs::WellFormed::is_blank_waiter))]
-fn is_blank_waiter(w: Waiter) -> bool
-    ensures { result ≡ is_blank_waiter w }
+fn is_blank_waiter(w: &Waiter) -> bool
+    ensures { result ≡ is_blank_waiter w.now }
 {
-    let c = w.client;
-    let m = w.mode;
-    let e = is_exclusive(m);
-    (c.0 == 0) & e
+    (w.client.0 == 0) & matches!(w.mode, Mode::Exclusive)
 }
 
-#[tactic(auto, unfolding(model::specs::WellFormed::shaped))]
-fn shaped_waiters(a: [Waiter; QUEUE_CAPACITY], n: usize) -> bool
-    ensures { result ≡ shaped queue_capacity is_blank_waiter a n }
+fn blank_waiters(a: &[Waiter]) -> bool
+    ensures { result ≡ all is_blank_waiter a.now }
 {
-    let mut ok = n <= QUEUE_CAPACITY;
-    let mut j = n;
-    while j < QUEUE_CAPACITY {
-        let w = a[j];
-        let b = is_blank_waiter(w);
-        ok = ok & b;
-        j += 1;
-    }
-    ok
+    a.iter().fold(true, |ok, w| ok & is_blank_waiter(w))
 }
 
-fn no_holder(h: [bool; CLIENTS]) -> bool
-    ensures { result ≡ (eqb (length h) clients && all not h) }
+fn no_holder(h: &[bool; CLIENTS]) -> bool
+    ensures { result ≡ (eqb (length h.now) clients && all not h.now) }
 {
-    let mut ok = true;
-    let mut j: usize = 0;
-    while j < CLIENTS {
-        ok = ok & !h[j];
-        j += 1;
-    }
-    ok
+    h.iter().fold(true, |ok, held| ok & !*held)
 }
 
-fn is_blank_agent(a: Agent) -> bool
-    ensures { result ≡ is_blank_agent a }
+#[tactic(auto, unfolding(model::specs::WellFormed::is_blank_agent, model::specs::WellFormed::shaped))]
+fn is_blank_agent(a: &Agent) -> bool
+    ensures { result ≡ is_blank_agent a.now }
 {
-    let m = a.mode;
-    let h = a.holders;
-    let q = a.queue;
-    let s = q.slots;
-    let exclusive = is_exclusive(m);
-    if no_holder(h) {
-        if shaped_waiters(s, 0) {
-            exclusive & ((q.len == 0) & (a.incarnation == 0))
-        } else {
-            false
-        }
-    } else {
-        false
-    }
+    matches!(a.mode, Mode::Exclusive)
+        && no_holder(&a.holders)
+        && blank_waiters(&a.queue.slots)
+        && a.queue.len == 0
+        && a.incarnation == 0
 }
 
-fn is_free(m: Message) -> bool
-    ensures { result ≡ is_free m }
+#[tactic(auto, unfolding(model::specs::WellFormed::is_blank_packet))]
+fn is_blank_packet(p: &Packet) -> bool
+    ensures { result ≡ is_blank_packet p.now }
 {
-    match m {
-        Message::Free => true,
-        Message::Acquire {
-            client: _,
-            mode: _,
-            granted: _,
-        } => false,
-        Message::Grant { client: _, mode: _ } => false,
-        Message::Release { client: _ } => false,
-    }
-}
-
-fn to_decider(t: Address) -> bool
-    ensures { result ≡ to_decider t }
-{
-    match t {
-        Address::Decider => true,
-        Address::Machine(_) => false,
-    }
-}
-
-fn is_blank_packet(p: Packet) -> bool
-    ensures { result ≡ is_blank_packet p }
-{
-    let m = p.message;
-    let t = p.to;
-    let x = p.carried;
-    let free = is_free(m);
-    let at_decider = to_decider(t);
-    if free & (at_decider & (!p.rejected & ((p.circled == 0) & !x.present))) {
-        is_blank_agent(x.agent)
-    } else {
-        false
-    }
+    matches!(p.message, Message::Free)
+        && matches!(p.to, Address::Decider)
+        && !p.rejected
+        && p.circled == 0
+        && !p.carried.present
+        && is_blank_agent(&p.carried.agent)
 }
 
 // ---- a queue and an agent
-// One pass over the first n, with the set of the clients seen so far.
-fn waiters_formed(a: [Waiter; QUEUE_CAPACITY], n: usize) -> bool
-    requires { n ≤ queue_capacity }
-    ensures { result ≡ (all waiter_in_range (take n a) && distinct (take n a)) }
+// One pass, with the set of the clients seen so far.
+fn waiters_formed(a: &[Waiter]) -> bool
+    ensures { result ≡ (all waiter_in_range a.now && distinct a.now) }
 {
     let mut seen = [false; CLIENTS];
-    let mut j: usize = 0;
-    while j < n {
-        let w = a[j];
-        let c = w.client;
-        let i = c.0 as usize;
-        if CLIENTS <= i {
-            return false;
-        }
-        if seen[i] {
+    for w in a {
+        let i = w.client.0 as usize;
+        if CLIENTS <= i || seen[i] {
             return false;
         }
         seen[i] = true;
-        j += 1;
     }
     true
 }
 
-#[tactic(auto, unfolding(model::specs::WellFormed::queue_formed))]
-fn queue_formed(q: Queue) -> bool
-    ensures { result ≡ queue_formed q }
+#[tactic(auto, unfolding(model::specs::WellFormed::queue_formed, model::specs::WellFormed::shaped))]
+fn queue_formed(q: &Queue) -> bool
+    ensures { result ≡ queue_formed q.now }
 {
-    let a = q.slots;
     let n = q.len as usize;
-    if shaped_waiters(a, n) {
-        waiters_formed(a, n)
-    } else {
-        false
-    }
-}
-
-// An array's length is known of a parameter, and so to its callers.
-fn has_all_holders(h: [bool; CLIENTS]) -> bool
-    ensures { result ≡ eqb (length h) clients }
-{
-    true
+    n <= QUEUE_CAPACITY && blank_waiters(&q.slots[n..]) && waiters_formed(&q.slots[..n])
 }
 
 #[tactic(auto, unfolding(model::specs::WellFormed::agent_formed))]
-fn agent_formed(a: Agent) -> bool
-    ensures { result ≡ agent_formed a }
+fn agent_formed(a: &Agent) -> bool
+    ensures { result ≡ agent_formed a.now }
 {
-    let h = a.holders;
-    let holders = has_all_holders(h);
-    let queue = queue_formed(a.queue);
-    holders & queue
+    queue_formed(&a.queue)
 }
 
 #[tactic(auto, unfolding(model::specs::WellFormed::slot_formed))]
-fn slot_formed(x: AgentSlot) -> bool
-    ensures { result ≡ slot_formed x }
+fn slot_formed(x: &AgentSlot) -> bool
+    ensures { result ≡ slot_formed x.now }
 {
     if x.present {
-        agent_formed(x.agent)
+        agent_formed(&x.agent)
     } else {
-        is_blank_agent(x.agent)
+        is_blank_agent(&x.agent)
     }
 }
 
@@ -198,30 +112,17 @@ fn address_in_range(t: Address) -> bool
     }
 }
 
+fn to_decider(t: Address) -> bool
+    ensures { result ≡ to_decider t }
+{
+    matches!(t, Address::Decider)
+}
+
 // An ACQUIRE or a RELEASE: no agent, never rejected.
 fn request_formed(c: ClientId, carries: bool, rejected: bool) -> bool
     ensures { result ≡ (client_in_range c && (not carries && not rejected)) }
 {
-    (c.0 < CLIENTS as u8) & (!carries & !rejected)
-}
-
-fn grant_formed(c: ClientId, carries: bool, rejected: bool, t: Address) -> bool
-    ensures { result ≡ (client_in_range c && (not rejected || (carries && not (to_decider t)))) }
-{
-    let at_decider = to_decider(t);
-    (c.0 < CLIENTS as u8) & (!rejected | (carries & !at_decider))
-}
-
-#[tactic(auto, unfolding(model::specs::WellFormed::message_formed))]
-fn free_formed(carries: bool, rejected: bool, t: Address) -> bool
-    ensures { result ≡ message_formed Free carries rejected t }
-{
-    let at_decider = to_decider(t);
-    if rejected {
-        carries & !at_decider
-    } else {
-        carries & at_decider
-    }
+    c.0 < CLIENTS as u8 && !carries && !rejected
 }
 
 #[tactic(auto, unfolding(model::specs::WellFormed::message_formed))]
@@ -229,14 +130,12 @@ fn message_formed(m: Message, carries: bool, rejected: bool, t: Address) -> bool
     ensures { result ≡ message_formed m carries rejected t }
 {
     match m {
-        Message::Free => free_formed(carries, rejected, t),
-        Message::Acquire {
-            client: c,
-            mode: _,
-            granted: _,
-        } => request_formed(c, carries, rejected),
-        Message::Grant { client: c, mode: _ } => grant_formed(c, carries, rejected, t),
-        Message::Release { client: c } => request_formed(c, carries, rejected),
+        Message::Free => carries && rejected != to_decider(t),
+        Message::Acquire { client, .. } => request_formed(client, carries, rejected),
+        Message::Grant { client, .. } => {
+            client.0 < CLIENTS as u8 && (!rejected || (carries && !to_decider(t)))
+        }
+        Message::Release { client } => request_formed(client, carries, rejected),
     }
 }
 
@@ -244,67 +143,38 @@ fn message_formed(m: Message, carries: bool, rejected: bool, t: Address) -> bool
 fn circled_formed(m: Message, n: u8) -> bool
     ensures { result ≡ circled_formed m n }
 {
-    match m {
-        Message::Free => n == 0,
-        Message::Acquire {
-            client: _,
-            mode: _,
-            granted: _,
-        } => true,
-        Message::Grant { client: _, mode: _ } => n == 0,
-        Message::Release { client: _ } => true,
-    }
+    matches!(m, Message::Acquire { .. } | Message::Release { .. }) || n == 0
 }
 
 #[tactic(auto, unfolding(model::specs::WellFormed::packet_formed))]
-fn packet_formed(p: Packet) -> bool
-    ensures { result ≡ packet_formed p }
+fn packet_formed(p: &Packet) -> bool
+    ensures { result ≡ packet_formed p.now }
 {
-    let m = p.message;
-    let t = p.to;
-    let x = p.carried;
-    let message = message_formed(m, x.present, p.rejected, t);
-    let circled = circled_formed(m, p.circled);
-    let address = address_in_range(t);
-    let carried = slot_formed(x);
-    message & (circled & (address & carried))
+    message_formed(p.message, p.carried.present, p.rejected, p.to)
+        && circled_formed(p.message, p.circled)
+        && address_in_range(p.to)
+        && slot_formed(&p.carried)
 }
 
 // ---- a wire
-// The slots behind the first n, then these: in one function, since each that takes the array copies it.
-#[tactic(auto, unfolding(model::specs::WellFormed::shaped))]
-fn packets_formed(a: [Packet; WIRE_CAPACITY], n: usize) -> bool
-    ensures { result ≡ (shaped wire_capacity is_blank_packet a n && all packet_formed (take n a)) }
+fn blank_packets(a: &[Packet]) -> bool
+    ensures { result ≡ all is_blank_packet a.now }
 {
-    let mut blank = n <= WIRE_CAPACITY;
-    let mut j = n;
-    while j < WIRE_CAPACITY {
-        let p = a[j];
-        let b = is_blank_packet(p);
-        blank = blank & b;
-        j += 1;
-    }
-    if blank {
-        let mut ok = true;
-        let mut k: usize = 0;
-        while k < n {
-            let p = a[k];
-            let b = packet_formed(p);
-            ok = ok & b;
-            k += 1;
-        }
-        ok
-    } else {
-        false
-    }
+    a.iter().all(is_blank_packet)
 }
 
-#[tactic(auto, unfolding(model::specs::WellFormed::wire_formed))]
-fn wire_formed(w: Wire) -> bool
-    ensures { result ≡ wire_formed w }
+fn packets_formed(a: &[Packet]) -> bool
+    ensures { result ≡ all packet_formed a.now }
 {
-    let a = w.slots;
-    packets_formed(a, w.len as usize)
+    a.iter().all(packet_formed)
+}
+
+#[tactic(auto, unfolding(model::specs::WellFormed::wire_formed, model::specs::WellFormed::shaped))]
+fn wire_formed(w: &Wire) -> bool
+    ensures { result ≡ wire_formed w.now }
+{
+    let n = w.len as usize;
+    n <= WIRE_CAPACITY && blank_packets(&w.slots[n..]) && packets_formed(&w.slots[..n])
 }
 
 // ---- a lock and the cluster, which has the preference n
@@ -317,85 +187,51 @@ fn owner_in_range(o: Owner) -> bool
     }
 }
 
-fn decider_formed(n: u8, d: Decider) -> bool
-    ensures { result ≡ decider_formed n d }
+fn decider_formed(n: u8, d: &Decider) -> bool
+    ensures { result ≡ decider_formed n d.now }
 {
-    let o = d.owner;
-    let owner = owner_in_range(o);
-    owner & (!d.writer | (n == 1))
-}
-
-fn slots_formed(a: [AgentSlot; MACHINES]) -> bool
-    ensures { result ≡ (eqb (length a) machines && all slot_formed a) }
-{
-    let mut ok = true;
-    let mut j: usize = 0;
-    while j < MACHINES {
-        let x = a[j];
-        let b = slot_formed(x);
-        ok = ok & b;
-        j += 1;
-    }
-    ok
+    owner_in_range(d.owner) && (!d.writer || n == 1)
 }
 
 // Only who waits has the note of a lost GRANT.
 #[tactic(auto, unfolding(model::specs::WellFormed::client_formed))]
-fn client_formed(x: ClientState) -> bool
-    ensures { result ≡ client_formed x }
+fn client_formed(x: &ClientState) -> bool
+    ensures { result ≡ client_formed x.now }
 {
-    let st = x.status;
-    let waits = is_waiting(st);
-    !x.lost | waits
+    !x.lost || matches!(x.status, Status::Waiting(_))
 }
 
-fn clients_formed(a: [ClientState; CLIENTS]) -> bool
-    ensures { result ≡ (eqb (length a) clients && all client_formed a) }
+fn slots_formed(a: &[AgentSlot; MACHINES]) -> bool
+    ensures { result ≡ (eqb (length a.now) machines && all slot_formed a.now) }
 {
-    let mut ok = true;
-    let mut j: usize = 0;
-    while j < CLIENTS {
-        let x = a[j];
-        let b = client_formed(x);
-        ok = ok & b;
-        j += 1;
-    }
-    ok
+    a.iter().all(slot_formed)
+}
+
+fn clients_formed(a: &[ClientState; CLIENTS]) -> bool
+    ensures { result ≡ (eqb (length a.now) clients && all client_formed a.now) }
+{
+    a.iter().all(client_formed)
 }
 
 #[tactic(auto, unfolding(model::specs::WellFormed::lock_formed))]
-fn lock_formed(n: u8, s: LockState) -> bool
-    ensures { result ≡ lock_formed n s }
+fn lock_formed(n: u8, s: &LockState) -> bool
+    ensures { result ≡ lock_formed n s.now }
 {
-    let a = s.agents;
-    let c = s.clients;
-    let decider = decider_formed(n, s.decider);
-    let agents = slots_formed(a);
-    let clients = clients_formed(c);
-    let wire = wire_formed(s.wire);
-    decider & (agents & (clients & wire))
+    decider_formed(n, &s.decider)
+        && slots_formed(&s.agents)
+        && clients_formed(&s.clients)
+        && wire_formed(&s.wire)
 }
 
-fn locks_formed(n: u8, a: [LockState; LOCKS]) -> bool
-    ensures { result ≡ (eqb (length a) locks && all (lock_formed n) a) }
+fn locks_formed(n: u8, a: &[LockState; LOCKS]) -> bool
+    ensures { result ≡ (eqb (length a.now) locks && all (lock_formed n) a.now) }
 {
-    let mut ok = true;
-    let mut j: usize = 0;
-    while j < LOCKS {
-        let s = a[j];
-        let b = lock_formed(n, s);
-        ok = ok & b;
-        j += 1;
-    }
-    ok
+    a.iter().all(|s| lock_formed(n, s))
 }
 
 #[tactic(auto, unfolding(model::specs::WellFormed::well_formed))]
 pub fn well_formed(x: Cluster) -> bool
     ensures { result ≡ well_formed x }
 {
-    let a = x.locks;
-    let n = x.preference;
-    let locks = locks_formed(n, a);
-    (n < PREFERENCES) & locks
+    x.preference < PREFERENCES && locks_formed(x.preference, &x.locks)
 }
