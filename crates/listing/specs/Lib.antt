@@ -1,2 +1,3 @@
 -- Laws of bytes put into a buffer.
+pub mod Lines
 pub mod Put

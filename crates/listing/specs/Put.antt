@@ -1,7 +1,6 @@
--- Bytes put into a buffer: one of them, one of a text, a text and the next one, and any where the buffer is full.
-use Rattle.std.specs.Prelude.{◌≡◌, refl, List, [], ◌∷◌, ◌++◌, set, get_or, drop}
+-- Bytes put into a buffer: one of them, one text behind another, and any where the buffer is full.
+use Rattle.std.specs.Prelude.{◌≡◌, refl, List, [], ◌∷◌, ◌++◌, set}
 use Prim.Native.Nat.{ℕ, suc, ◌+◌, ◌<◌, ◌≤◌, min}
-use Rattle.std.proofs.Common.{add-one, drop_of_length-le, drop-cons}
 use native.Mathlib.Omega.{arith}
 use Rattle.std.proofs.Math.ListN.{length}
 use Rattle.std.proofs.Math.Seq.{set_out}
@@ -27,14 +26,6 @@ put_append (b ∷ bs) cs f = put_append bs cs _
 
 pub put_then : (bs cs : List ℕ) (f : Filled) {g h : Filled} → g ≡ put bs f → h ≡ put cs g → h ≡ put (bs ++ cs) f
 put_then bs cs f e d = rw (put_append bs cs f, ← e) d
-
-pub put_next : (s : List ℕ) (i d : ℕ) (f g : Filled) → i < length s → g ≡ put (get_or s i d ∷ []) f → put (drop (i + 1) s) g ≡ put (drop i s) f
-unfolding put
-put_next s i d f g h e = rw (e, add-one, drop-cons s i d)
-
-pub put_done : (s : List ℕ) (i : ℕ) (f : Filled) → length s ≤ i → put (drop i s) f ≡ f
-unfolding put
-put_done s i f h = rw (drop_of_length-le s h)
 
 pub put_full : (bs o : List ℕ) → put bs (filled o (length o)) ≡ filled o (length o)
 unfolding put

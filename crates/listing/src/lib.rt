@@ -1,34 +1,11 @@
-// The bytes of the listing, put into a lent buffer as far as it goes. Each function takes the position behind what is there and gives the next;
-// at the buffer's end nothing more is written.
+// The lines of a listing, put into a lent buffer as far as it goes: at its end nothing more is written.
 #![tactic(auto)]
 
-ghost use Rattle.std.specs.Prelude.{◌≡◌, [], ◌∷◌, ◌<◌};
-ghost use Rattle.model.specs.Listing.{digit, digit_of, decimal, column, header, wire_column, line_of, refused_line, filled, put};
+ghost use Rattle.std.specs.Prelude.{◌≡◌, [], ◌∷◌, ◌<◌, take};
+ghost use Rattle.model.specs.Refusals.{number};
+ghost use Rattle.model.specs.Listing.{digit, digit_of, decimal, column, header, wire_column, line_of, refused_line, filled};
 
 use model::{Answer, Refusal};
-
-fn put_byte(out: &mut [u8], at: usize, b: u8) -> usize
-    ensures { filled out.new result ≡ put (b ∷ []) (filled out.old at) }
-{
-    if at < out.len() {
-        out[at] = b;
-        at + 1
-    } else {
-        out.len()
-    }
-}
-
-pub fn put_text(out: &mut [u8], at: usize, s: &[u8]) -> usize
-    ensures { filled out.new result ≡ put s.now (filled out.old at) }
-{
-    let mut k = at;
-    let mut i: usize = 0;
-    while i < s.len() {
-        k = put_byte(out, k, s[i]);
-        i += 1;
-    }
-    k
-}
 
 fn digit(n: u16) -> u8
     ensures { result ≡ digit n }
@@ -36,73 +13,128 @@ fn digit(n: u16) -> u8
     48 + (n % 10) as u8
 }
 
-// The digit of n at d, a power of 10, unless n is below it.
-fn put_digit(out: &mut [u8], at: usize, d: u16, n: u16) -> usize
-    requires { 0 < d }
-    ensures { filled out.new result ≡ put (digit_of d n) (filled out.old at) }
-{
-    if n < d {
-        at
-    } else {
-        put_byte(out, at, digit(n / d))
+// The buffer, and the position behind the lines that are in it.
+#[derive(Drop)]
+pub struct Lines<'a> {
+    out: &'a mut [u8],
+    at: usize,
+}
+
+impl<'a> Lines<'a> {
+    ghost use Rattle.listing.specs.Lines.{lines_in, Puts};
+
+    pub fn new(out: &'a mut [u8]) -> Lines<'a>
+        ensures empty { lines_in result ≡ filled out.old 0 }
+        ensures same_buffer { result.out.ghost_name ≡ out.entry.ghost_name }
+    {
+        Lines { out, at: 0 }
     }
-}
 
-pub fn put_decimal(out: &mut [u8], at: usize, n: u16) -> usize
-    ensures { filled out.new result ≡ put (decimal n) (filled out.old at) }
-{
-    let k = put_digit(out, at, 10000, n);
-    let k = put_digit(out, k, 1000, n);
-    let k = put_digit(out, k, 100, n);
-    let k = put_digit(out, k, 10, n);
-    put_byte(out, k, digit(n))
-}
-
-fn put_column(out: &mut [u8], at: usize, n: u16) -> usize
-    ensures { filled out.new result ≡ put (column n) (filled out.old at) }
-{
-    let k = put_decimal(out, at, n);
-    put_byte(out, k, b' ')
-}
-
-// The packets on the wire, or a dash where the answer says that there is no such lock.
-fn put_wire(out: &mut [u8], at: usize, answer: u8, wire: u8) -> usize
-    ensures { filled out.new result ≡ put (wire_column answer wire) (filled out.old at) }
-{
-    if answer == 1 {
-        put_byte(out, at, b'-')
-    } else {
-        put_decimal(out, at, wire as u16)
+    // How many bytes of the buffer have lines.
+    pub fn written(&self) -> usize
+        ensures { result ≡ (lines_in self.now).at }
+    {
+        self.at
     }
-}
 
-pub fn put_header(out: &mut [u8], at: usize) -> usize
-    ensures { filled out.new result ≡ put header (filled out.old at) }
-{
-    put_text(out, at, b"n kind answer wire\n")
-}
-
-// The line of a record's step. A run without a listing has an empty buffer, and makes no line.
-pub fn put_line(out: &mut [u8], at: usize, n: u16, kind: u8, answer: Answer, wire: u8) -> usize
-    ensures { filled out.new result ≡ put (line_of n (record { kind = kind; answer = answer; wire = wire })) (filled out.old at) }
-{
-    if at == out.len() {
-        return at;
+    pub fn bytes(&self) -> &[u8]
+        ensures { result.now ≡ take (lines_in self.now).at (lines_in self.now).bytes }
+    {
+        let out = &*self.out;
+        &out[..self.at.min(out.len())]
     }
-    let a = answer.number();
-    let k = put_column(out, at, n);
-    let k = put_column(out, k, kind as u16);
-    let k = put_column(out, k, a as u16);
-    let k = put_wire(out, k, a, wire);
-    put_byte(out, k, b'\n')
-}
 
-// The line of a bad record, or of a run that has not begun.
-pub fn put_refused(out: &mut [u8], at: usize, n: u16, r: Refusal) -> usize
-    ensures { filled out.new result ≡ put (refused_line n r) (filled out.old at) }
-{
-    let k = put_column(out, at, n);
-    let k = put_text(out, k, b"- ");
-    let k = put_column(out, k, r.number() as u16);
-    put_text(out, k, b"-\n")
+    // The buffer serves anew, from its start on.
+    pub fn clear(&mut self)
+        ensures empty { lines_in self.new ≡ filled self.old.out.now 0 }
+        ensures same_buffer { self.new.out.ghost_name ≡ self.old.out.ghost_name }
+    {
+        self.at = 0;
+    }
+
+    fn byte(&mut self, b: u8)
+        ensures { Puts (b ∷ []) self.old self.new }
+    {
+        if self.at < self.out.len() {
+            self.out[self.at] = b;
+            self.at += 1;
+        } else {
+            self.at = self.out.len();
+        }
+    }
+
+    pub fn text(&mut self, s: &[u8])
+        ensures { Puts s.now self.old self.new }
+    {
+        for &b in s {
+            self.byte(b);
+        }
+    }
+
+    // The digit of n at d, a power of 10, unless n is below it.
+    fn digit(&mut self, d: u16, n: u16)
+        requires { 0 < d }
+        ensures { Puts (digit_of d n) self.old self.new }
+    {
+        if d <= n {
+            self.byte(digit(n / d));
+        }
+    }
+
+    pub fn decimal(&mut self, n: u16)
+        ensures { Puts (decimal n) self.old self.new }
+    {
+        self.digit(10000, n);
+        self.digit(1000, n);
+        self.digit(100, n);
+        self.digit(10, n);
+        self.byte(digit(n));
+    }
+
+    fn column(&mut self, n: u16)
+        ensures { Puts (column n) self.old self.new }
+    {
+        self.decimal(n);
+        self.byte(b' ');
+    }
+
+    // The packets on the wire, or a dash where the answer says that there is no such lock.
+    fn wire(&mut self, answer: Answer, wire: u8)
+        ensures { Puts (wire_column (number answer) wire) self.old self.new }
+    {
+        match answer {
+            Answer::Refused(Refusal::LockRange) => self.byte(b'-'),
+            _ => self.decimal(wire as u16),
+        }
+    }
+
+    pub fn header(&mut self)
+        ensures { Puts header self.old self.new }
+    {
+        self.text(b"n kind answer wire\n");
+    }
+
+    // The line of a record's step. A run without a listing has an empty buffer, and makes no line.
+    pub fn line(&mut self, n: u16, kind: u8, answer: Answer, wire: u8)
+        ensures { Puts (line_of n (record { kind = kind; answer = answer; wire = wire })) self.old self.new }
+    {
+        if self.at == self.out.len() {
+            return;
+        }
+        self.column(n);
+        self.column(kind as u16);
+        self.column(answer.number() as u16);
+        self.wire(answer, wire);
+        self.byte(b'\n');
+    }
+
+    // The line of a bad record, or of a run that has not begun.
+    pub fn refused(&mut self, n: u16, r: Refusal)
+        ensures { Puts (refused_line n r) self.old self.new }
+    {
+        self.column(n);
+        self.text(b"- ");
+        self.column(r.number() as u16);
+        self.text(b"-\n");
+    }
 }

@@ -1,6 +1,6 @@
 use Rattle.model.specs.Listing.{header}
-use Rattle.listing.proofs.put_header.Goals as goal
+use Rattle.listing.proofs.Lines.header.Goals as goal
 
 pub returns : goal.returns
 unfolding header
-returns c = c.put_text.ensures
+returns c = c.text.ensures
