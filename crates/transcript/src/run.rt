@@ -5,9 +5,10 @@ ghost use Rattle.model.specs.declared.Handling.TheVariants.{None};
 ghost use Rattle.model.specs.WellFormed.{well_formed};
 ghost use Rattle.model.specs.Transcripts.{replayed, replay_from, replay};
 ghost use Rattle.model.specs.Listing.{kind_of, lines_from, listing, filled, put};
+ghost use Rattle.listing.specs.Lines.{lines_in, Puts};
 
 use formed::well_formed;
-use listing::{put_header, put_line, put_refused};
+use listing::Lines;
 use lock_calls::{carry_out, lock_of, plan_call};
 use model::{Answer, Call, Cluster, Handling, LOCKS, Reading, Refusal, Replayed};
 use records::reader::read_at;
@@ -63,17 +64,16 @@ fn ended(
 }
 
 // Each record's call is made, whatever it answers; a lock out of range has no state to step on, and no wire.
-fn run_records(x: Cluster, bytes: &[u8], out: &mut [u8], start: usize) -> Listed
+fn run_records(x: Cluster, bytes: &[u8], lines: &mut Lines) -> Listed
     requires { (well_formed x ≡ true) × (length bytes.now ≤ 65535) }
-    ensures { (result.outcome ≡ replay_from (length bytes.now + 1) bytes.now 0 0 None x)
-        × (filled out.new result.written
-        ≡ put (lines_from (length bytes.now + 1) bytes.now 0 0 x) (filled out.old start)) }
+    ensures outcome { result.outcome ≡ replay_from (length bytes.now + 1) bytes.now 0 0 None x }
+    ensures lines { Puts (lines_from (length bytes.now + 1) bytes.now 0 0 x) lines.old lines.new }
+    ensures written { result.written ≡ (lines_in lines.new).at }
 {
     let mut y = x;
     let mut at: usize = 0;
     let mut n: u16 = 0;
     let mut h = Handling::None;
-    let mut k = start;
     loop {
         let r = read_at(bytes, at);
         match r {
@@ -100,15 +100,21 @@ fn run_records(x: Cluster, bytes: &[u8], out: &mut [u8], start: usize) -> Listed
                     }
                 }
                 n += 1;
-                k = put_line(out, k, n, kind_of(call), a, w);
+                lines.line(n, kind_of(call), a, w);
                 at = next;
             }
             Reading::Bad => {
-                let k = put_refused(out, k, n + 1, Refusal::BadRecord);
-                return ended(Answer::Refused(Refusal::BadRecord), n + 1, h, y, k);
+                lines.refused(n + 1, Refusal::BadRecord);
+                return ended(
+                    Answer::Refused(Refusal::BadRecord),
+                    n + 1,
+                    h,
+                    y,
+                    lines.written(),
+                );
             }
             Reading::End => {
-                return ended(Answer::Accepted, n, h, y, k);
+                return ended(Answer::Accepted, n, h, y, lines.written());
             }
         }
     }
@@ -119,23 +125,30 @@ pub fn list(x: Cluster, bytes: &[u8], out: &mut [u8]) -> Listed
     ensures { (result.outcome ≡ replay x bytes.now)
         × (filled out.new result.written ≡ put (listing x bytes.now) (filled out.old 0)) }
 {
-    let k = put_header(out, 0);
+    let mut lines = Lines::new(out);
+    lines.header();
     if well_formed(x) {
         if bytes.len() <= 65535 {
-            run_records(x, bytes, out, k)
+            run_records(x, bytes, &mut lines)
         } else {
-            let k = put_refused(out, k, 0, Refusal::TranscriptLength);
+            lines.refused(0, Refusal::TranscriptLength);
             ended(
                 Answer::Refused(Refusal::TranscriptLength),
                 0,
                 Handling::None,
                 x,
-                k,
+                lines.written(),
             )
         }
     } else {
-        let k = put_refused(out, k, 0, Refusal::Malformed);
-        ended(Answer::Refused(Refusal::Malformed), 0, Handling::None, x, k)
+        lines.refused(0, Refusal::Malformed);
+        ended(
+            Answer::Refused(Refusal::Malformed),
+            0,
+            Handling::None,
+            x,
+            lines.written(),
+        )
     }
 }
 
