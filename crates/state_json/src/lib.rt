@@ -1,332 +1,208 @@
-// A lock's state in JSON. Each function puts its part behind what is in the buffer and gives the next position.
+// A lock's state in JSON. Each function puts its part behind the lines that are there.
 #![tactic(auto)]
 
-use listing::{put_decimal, put_text};
+ghost use Rattle.std.specs.Iterator.{IsFinite};
+
+use listing::Lines;
 use model::{
-    Address, Agent, AgentSlot, CLIENTS, ClientId, ClientState, Decider, LockState, MACHINES,
-    Message, Mode, Owner, Packet, QUEUE_CAPACITY, Queue, Reason, ReasonAnswer, Status,
-    WIRE_CAPACITY, Waiter, Wire,
+    Address, Agent, AgentSlot, CLIENTS, ClientId, ClientState, Decider, LockState, Message, Mode,
+    Owner, Packet, Queue, Reason, ReasonAnswer, Status, Waiter, Wire,
 };
 use reasons::reason_in;
 
 // A field's name and its number.
-pub fn put_field(out: &mut [u8], at: usize, name: &[u8], n: u16) -> usize {
-    let k = put_text(out, at, name);
-    put_decimal(out, k, n)
+pub fn put_field(lines: &mut Lines, name: &[u8], n: u16) {
+    lines.text(name);
+    lines.decimal(n);
 }
 
-// What stands between the members of a list: nothing before the first, which begins at start.
-pub fn put_comma(out: &mut [u8], start: usize, at: usize) -> usize {
-    if start < at {
-        put_text(out, at, b",")
-    } else {
-        at
+// The same of a field that has null where there is no number.
+pub fn put_optional(lines: &mut Lines, name: &[u8], n: Option<u8>) {
+    lines.text(name);
+    match n {
+        Some(n) => lines.decimal(n as u16),
+        None => lines.text(b"null"),
     }
 }
 
-fn mode_number(m: Mode) -> u16 {
+// A list of what there is, each put by put, with commas between.
+pub fn put_list<I: Iterator + Drop, F: FnMut(&mut Lines, I::Item)>(
+    lines: &mut Lines,
+    members: I,
+    mut put: F,
+)
+    requires can { I.can_next members }
+    requires ends { IsFinite (I.remaining members) }
+    requires each { F.IsAlwaysCallable put }
+{
+    lines.text(b"[");
+    let mut between: &[u8] = b"";
+    for member in members {
+        lines.text(between);
+        put(lines, member);
+        between = b",";
+    }
+    lines.text(b"]");
+}
+
+fn mode_number(m: Mode) -> u8 {
     match m {
         Mode::Exclusive => 2,
         Mode::Shared => 3,
     }
 }
 
-fn put_bool(out: &mut [u8], at: usize, b: bool) -> usize {
+fn put_bool(lines: &mut Lines, name: &[u8], b: bool) {
+    lines.text(name);
     if b {
-        put_text(out, at, b"true")
+        lines.text(b"true");
     } else {
-        put_text(out, at, b"false")
+        lines.text(b"false");
     }
 }
 
-fn put_owner(out: &mut [u8], at: usize, o: Owner) -> usize {
-    match o {
-        Owner::Free => put_text(out, at, b"\"mode\":0,\"machine\":null"),
-        Owner::Owned(m, machine) => {
-            let k = put_field(out, at, b"\"mode\":", mode_number(m));
-            put_field(out, k, b",\"machine\":", machine.0 as u16)
-        }
-    }
+fn put_decider(lines: &mut Lines, d: &Decider) {
+    let (mode, machine) = match d.owner {
+        Owner::Free => (0, None),
+        Owner::Owned(m, machine) => (mode_number(m), Some(machine.0)),
+    };
+    put_field(lines, b"{\"mode\":", mode as u16);
+    put_optional(lines, b",\"machine\":", machine);
+    put_field(lines, b",\"incarnation\":", d.incarnation as u16);
+    put_bool(lines, b",\"writer\":", d.writer);
+    lines.text(b"}");
 }
 
-fn put_decider(out: &mut [u8], at: usize, d: Decider) -> usize {
-    let o = d.owner;
-    let k = put_text(out, at, b"{");
-    let k = put_owner(out, k, o);
-    let k = put_field(out, k, b",\"incarnation\":", d.incarnation as u16);
-    let k = put_text(out, k, b",\"writer\":");
-    let k = put_bool(out, k, d.writer);
-    put_text(out, k, b"}")
+fn put_waiter(lines: &mut Lines, w: &Waiter) {
+    put_field(lines, b"{\"client\":", w.client.0 as u16);
+    put_field(lines, b",\"mode\":", mode_number(w.mode) as u16);
+    lines.text(b"}");
 }
 
-// A member of the list that begins at start, if the client holds; so too below, if the slot is in use.
-fn put_holder(out: &mut [u8], start: usize, at: usize, holds: bool, c: u8) -> usize {
-    if holds {
-        let k = put_comma(out, start, at);
-        put_decimal(out, k, c as u16)
-    } else {
-        at
-    }
+fn put_queue(lines: &mut Lines, q: &Queue) {
+    put_list(lines, q.slots.iter().take(q.len as usize), put_waiter);
 }
 
-fn put_holders(out: &mut [u8], start: usize, holders: [bool; CLIENTS]) -> usize {
-    let mut k = start;
-    for c in 0..CLIENTS as u8 {
-        k = put_holder(out, start, k, holders[c as usize], c);
-    }
-    k
+fn put_holders(lines: &mut Lines, holders: &[bool; CLIENTS]) {
+    let clients = (0..CLIENTS as u8).zip(holders).filter(|(_, holds)| **holds);
+    put_list(lines, clients, |lines, (c, _)| lines.decimal(c as u16));
 }
 
-fn put_waiter(out: &mut [u8], start: usize, at: usize, used: bool, w: Waiter) -> usize {
-    if used {
-        let m = w.mode;
-        let c = w.client;
-        let k = put_comma(out, start, at);
-        let k = put_field(out, k, b"{\"client\":", c.0 as u16);
-        let k = put_field(out, k, b",\"mode\":", mode_number(m));
-        put_text(out, k, b"}")
-    } else {
-        at
-    }
-}
-
-fn put_waiters(out: &mut [u8], start: usize, waiters: [Waiter; QUEUE_CAPACITY], n: u8) -> usize {
-    let mut k = start;
-    for i in 0..QUEUE_CAPACITY {
-        k = put_waiter(out, start, k, i < n as usize, waiters[i]);
-    }
-    k
-}
-
-fn put_queue(out: &mut [u8], at: usize, q: Queue) -> usize {
-    let waiters = q.slots;
-    let k = put_text(out, at, b"[");
-    let k = put_waiters(out, k, waiters, q.len);
-    put_text(out, k, b"]")
-}
-
-fn put_agent(out: &mut [u8], at: usize, a: Agent) -> usize {
-    let m = a.mode;
-    let holders = a.holders;
-    let queue = a.queue;
-    let k = put_field(out, at, b"{\"mode\":", mode_number(m));
-    let k = put_text(out, k, b",\"holders\":[");
-    let k = put_holders(out, k, holders);
-    let k = put_text(out, k, b"],\"queue\":");
-    let k = put_queue(out, k, queue);
-    let k = put_field(out, k, b",\"incarnation\":", a.incarnation as u16);
-    put_text(out, k, b"}")
-}
-
-fn put_slot(out: &mut [u8], at: usize, s: AgentSlot) -> usize {
+fn put_slot(lines: &mut Lines, s: &AgentSlot) {
     if s.present {
-        let a = s.agent;
-        put_agent(out, at, a)
+        put_agent(lines, &s.agent);
     } else {
-        put_text(out, at, b"null")
+        lines.text(b"null");
     }
 }
 
-fn put_agents(out: &mut [u8], start: usize, agents: [AgentSlot; MACHINES]) -> usize {
-    let mut k = start;
-    for i in 0..MACHINES {
-        k = put_comma(out, start, k);
-        k = put_slot(out, k, agents[i]);
-    }
-    k
+fn put_agent(lines: &mut Lines, a: &Agent) {
+    put_field(lines, b"{\"mode\":", mode_number(a.mode) as u16);
+    lines.text(b",\"holders\":");
+    put_holders(lines, &a.holders);
+    lines.text(b",\"queue\":");
+    put_queue(lines, &a.queue);
+    put_field(lines, b",\"incarnation\":", a.incarnation as u16);
+    lines.text(b"}");
 }
 
-// A packet of the client, at an index.
-fn put_under_way(out: &mut [u8], at: usize, kind: &[u8], index: u8) -> usize {
-    let k = put_text(out, at, b"{\"kind\":\"");
-    let k = put_text(out, k, kind);
-    let k = put_field(out, k, b"\",\"index\":", index as u16);
-    put_text(out, k, b",\"machine\":null,\"ahead\":null}")
-}
-
-fn put_reason(out: &mut [u8], at: usize, r: Reason) -> usize {
-    match r {
-        Reason::Requested { index } => put_under_way(out, at, b"ACQUIRE", index),
-        Reason::Granted { index } => put_under_way(out, at, b"GRANT", index),
-        Reason::Rejected { index } => put_under_way(out, at, b"rejected GRANT", index),
-        Reason::Queued { machine, ahead } => {
-            let k = put_field(
-                out,
-                at,
-                b"{\"kind\":\"queue\",\"index\":null,\"machine\":",
-                machine.0 as u16,
-            );
-            let k = put_field(out, k, b",\"ahead\":", ahead as u16);
-            put_text(out, k, b"}")
-        }
-        Reason::Carried { index, ahead } => {
-            let k = put_field(out, at, b"{\"kind\":\"queue\",\"index\":", index as u16);
-            let k = put_field(out, k, b",\"machine\":null,\"ahead\":", ahead as u16);
-            put_text(out, k, b"}")
-        }
-        Reason::GrantLost => put_text(
-            out,
-            at,
-            b"{\"kind\":\"grant lost\",\"index\":null,\"machine\":null,\"ahead\":null}",
-        ),
-    }
-}
-
-fn put_answer(out: &mut [u8], at: usize, a: ReasonAnswer) -> usize {
-    match a {
-        ReasonAnswer::Because(r) => put_reason(out, at, r),
-        ReasonAnswer::Refused(_) => put_text(out, at, b"null"),
-    }
-}
-
-fn put_status(out: &mut [u8], at: usize, s: Status) -> usize {
-    match s {
-        Status::Idle => put_text(out, at, b"{\"status\":\"idle\",\"mode\":null"),
-        Status::Waiting(m) => put_field(
-            out,
-            at,
-            b"{\"status\":\"waiting\",\"mode\":",
-            mode_number(m),
-        ),
-        Status::Holding(m) => put_field(
-            out,
-            at,
-            b"{\"status\":\"holding\",\"mode\":",
-            mode_number(m),
-        ),
-    }
+fn put_reason(lines: &mut Lines, r: Reason) {
+    let (kind, index, machine, ahead): (&[u8], _, _, _) = match r {
+        Reason::Requested { index } => (b"ACQUIRE", Some(index), None, None),
+        Reason::Granted { index } => (b"GRANT", Some(index), None, None),
+        Reason::Rejected { index } => (b"rejected GRANT", Some(index), None, None),
+        Reason::Queued { machine, ahead } => (b"queue", None, Some(machine.0), Some(ahead)),
+        Reason::Carried { index, ahead } => (b"queue", Some(index), None, Some(ahead)),
+        Reason::GrantLost => (b"grant lost", None, None, None),
+    };
+    lines.text(b"{\"kind\":\"");
+    lines.text(kind);
+    put_optional(lines, b"\",\"index\":", index);
+    put_optional(lines, b",\"machine\":", machine);
+    put_optional(lines, b",\"ahead\":", ahead);
+    lines.text(b"}");
 }
 
 // A client's status, its note, and why it waits.
-fn put_client(out: &mut [u8], at: usize, c: ClientState, a: ReasonAnswer) -> usize {
-    let s = c.status;
-    let k = put_status(out, at, s);
-    let k = put_text(out, k, b",\"lost\":");
-    let k = put_bool(out, k, c.lost);
-    let k = put_text(out, k, b",\"reason\":");
-    let k = put_answer(out, k, a);
-    put_text(out, k, b"}")
-}
-
-fn put_clients(out: &mut [u8], start: usize, s: LockState) -> usize {
-    let clients = s.clients;
-    let mut k = start;
-    for i in 0..CLIENTS as u8 {
-        k = put_comma(out, start, k);
-        let a = reason_in(s, ClientId(i));
-        k = put_client(out, k, clients[i as usize], a);
+fn put_client(lines: &mut Lines, c: &ClientState, a: ReasonAnswer) {
+    let (status, mode): (&[u8], _) = match c.status {
+        Status::Idle => (b"idle", None),
+        Status::Waiting(m) => (b"waiting", Some(mode_number(m))),
+        Status::Holding(m) => (b"holding", Some(mode_number(m))),
+    };
+    lines.text(b"{\"status\":\"");
+    lines.text(status);
+    put_optional(lines, b"\",\"mode\":", mode);
+    put_bool(lines, b",\"lost\":", c.lost);
+    lines.text(b",\"reason\":");
+    match a {
+        ReasonAnswer::Because(r) => put_reason(lines, r),
+        ReasonAnswer::Refused(_) => lines.text(b"null"),
     }
-    k
+    lines.text(b"}");
 }
 
-fn put_kind(out: &mut [u8], at: usize, m: Message) -> usize {
+fn kind_of(m: Message) -> &'static [u8] {
     match m {
-        Message::Free => put_text(out, at, b"{\"kind\":\"FREE\""),
-        Message::Acquire {
-            client: _,
-            mode: _,
-            granted: _,
-        } => put_text(out, at, b"{\"kind\":\"ACQUIRE\""),
-        Message::Grant { client: _, mode: _ } => put_text(out, at, b"{\"kind\":\"GRANT\""),
-        Message::Release { client: _ } => put_text(out, at, b"{\"kind\":\"RELEASE\""),
+        Message::Free => b"FREE",
+        Message::Acquire { .. } => b"ACQUIRE",
+        Message::Grant { .. } => b"GRANT",
+        Message::Release { .. } => b"RELEASE",
     }
-}
-
-fn put_address(out: &mut [u8], at: usize, t: Address) -> usize {
-    match t {
-        Address::Decider => put_text(out, at, b",\"to\":null"),
-        Address::Machine(machine) => put_field(out, at, b",\"to\":", machine.0 as u16),
-    }
-}
-
-fn put_named(out: &mut [u8], at: usize, c: ClientId, m: Mode) -> usize {
-    let k = put_field(out, at, b",\"client\":", c.0 as u16);
-    put_field(out, k, b",\"mode\":", mode_number(m))
 }
 
 // Whom the message names, in which mode, and whether it is marked.
-fn put_about(out: &mut [u8], at: usize, m: Message) -> usize {
-    match m {
-        Message::Free => put_text(out, at, b",\"client\":null,\"mode\":null,\"granted\":false"),
+fn put_about(lines: &mut Lines, m: Message) {
+    let (client, mode, granted) = match m {
+        Message::Free => (None, None, false),
         Message::Acquire {
             client,
             mode,
             granted,
-        } => {
-            let k = put_named(out, at, client, mode);
-            let k = put_text(out, k, b",\"granted\":");
-            put_bool(out, k, granted)
-        }
-        Message::Grant { client, mode } => {
-            let k = put_named(out, at, client, mode);
-            put_text(out, k, b",\"granted\":false")
-        }
-        Message::Release { client } => {
-            let k = put_field(out, at, b",\"client\":", client.0 as u16);
-            put_text(out, k, b",\"mode\":null,\"granted\":false")
-        }
-    }
+        } => (Some(client.0), Some(mode_number(mode)), granted),
+        Message::Grant { client, mode } => (Some(client.0), Some(mode_number(mode)), false),
+        Message::Release { client } => (Some(client.0), None, false),
+    };
+    put_optional(lines, b",\"client\":", client);
+    put_optional(lines, b",\"mode\":", mode);
+    put_bool(lines, b",\"granted\":", granted);
 }
 
-// What became of the packet on its way.
-fn put_way(out: &mut [u8], at: usize, rejected: bool, circled: u8) -> usize {
-    let k = put_text(out, at, b",\"rejected\":");
-    let k = put_bool(out, k, rejected);
-    put_field(out, k, b",\"circled\":", circled as u16)
+fn put_packet(lines: &mut Lines, p: &Packet) {
+    let to = match p.to {
+        Address::Decider => None,
+        Address::Machine(machine) => Some(machine.0),
+    };
+    lines.text(b"{\"kind\":\"");
+    lines.text(kind_of(p.message));
+    put_optional(lines, b"\",\"to\":", to);
+    put_about(lines, p.message);
+    put_bool(lines, b",\"rejected\":", p.rejected);
+    put_field(lines, b",\"circled\":", p.circled as u16);
+    lines.text(b",\"agent\":");
+    put_slot(lines, &p.carried);
+    lines.text(b"}");
 }
 
-fn put_packet(out: &mut [u8], at: usize, p: Packet) -> usize {
-    let m = p.message;
-    let t = p.to;
-    let s = p.carried;
-    let k = put_kind(out, at, m);
-    let k = put_address(out, k, t);
-    let k = put_about(out, k, m);
-    let k = put_way(out, k, p.rejected, p.circled);
-    let k = put_text(out, k, b",\"agent\":");
-    let k = put_slot(out, k, s);
-    put_text(out, k, b"}")
+fn put_wire(lines: &mut Lines, w: &Wire) {
+    put_list(lines, w.slots.iter().take(w.len as usize), put_packet);
 }
 
-fn put_member(out: &mut [u8], start: usize, at: usize, used: bool, p: Packet) -> usize {
-    if used {
-        let k = put_comma(out, start, at);
-        put_packet(out, k, p)
-    } else {
-        at
-    }
+fn put_clients(lines: &mut Lines, s: &LockState) {
+    let clients = (0..CLIENTS as u8).zip(&s.clients);
+    put_list(lines, clients, |lines, (i, client)| {
+        put_client(lines, client, reason_in(*s, ClientId(i)))
+    });
 }
 
-fn put_packets(out: &mut [u8], start: usize, packets: [Packet; WIRE_CAPACITY], n: u8) -> usize {
-    let mut k = start;
-    for i in 0..WIRE_CAPACITY {
-        k = put_member(out, start, k, i < n as usize, packets[i]);
-    }
-    k
-}
-
-fn put_wire(out: &mut [u8], at: usize, w: Wire) -> usize {
-    let packets = w.slots;
-    let k = put_text(out, at, b"[");
-    let k = put_packets(out, k, packets, w.len);
-    put_text(out, k, b"]")
-}
-
-fn put_lists(out: &mut [u8], at: usize, s: LockState) -> usize {
-    let agents = s.agents;
-    let k = put_text(out, at, b",\"agents\":[");
-    let k = put_agents(out, k, agents);
-    let k = put_text(out, k, b"],\"clients\":[");
-    let k = put_clients(out, k, s);
-    put_text(out, k, b"],\"wire\":")
-}
-
-pub fn put_state(out: &mut [u8], at: usize, s: LockState) -> usize {
-    let decider = s.decider;
-    let wire = s.wire;
-    let k = put_text(out, at, b"{\"decider\":");
-    let k = put_decider(out, k, decider);
-    let k = put_lists(out, k, s);
-    let k = put_wire(out, k, wire);
-    put_text(out, k, b"}")
+pub fn put_state(lines: &mut Lines, s: &LockState) {
+    lines.text(b"{\"decider\":");
+    put_decider(lines, &s.decider);
+    lines.text(b",\"agents\":");
+    put_list(lines, s.agents.iter(), put_slot);
+    lines.text(b",\"clients\":");
+    put_clients(lines, s);
+    lines.text(b",\"wire\":");
+    put_wire(lines, &s.wire);
+    lines.text(b"}");
 }
