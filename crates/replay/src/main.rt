@@ -10,18 +10,11 @@ const MOST: usize = 65536;
 // No listing is longer (`longest_listing`, theorems/specs/Statements.antt).
 const ROOM: usize = 19 + 4 * 65535 + 24;
 
-fn write_front(rt: &impl Print, out: &[u8], n: usize) -> io::Result<()> {
-    if n <= out.len() {
-        rt.write_all(&out[..n])?;
-    }
-    Ok(())
-}
-
 fn main(rt: HostRuntime) -> io::Result<()> {
     let mut bytes = [0u8; MOST];
     let n = read_full(&mut rt.reader(), &mut bytes)?;
     let mut out = [0u8; ROOM];
     let made = engine::fresh(0);
     let listed = transcript::run::list(made.cluster, &bytes[..n], &mut out);
-    write_front(&rt, &out, listed.written)
+    rt.write_all(&out[..listed.written.min(ROOM)])
 }
