@@ -1,23 +1,30 @@
 // A record's line, and the last line, in JSON.
 use counts::{agents_in, marks_in};
 use engine::drain;
-use listing::put_text;
+use listing::Lines;
 use lock_calls::lock_of;
 use model::{
     Answer, Call, ClientId, Cluster, Found, Handling, LOCKS, LockId, LockState, MACHINES,
-    MachineId, Outcome, Replayed, TASKS, TaskId,
+    MachineId, Outcome, Refusal, Replayed, TASKS, TaskId,
 };
 use parts::search::first_naming;
-use state_json::{put_comma, put_field, put_state};
+use state_json::{put_field, put_list, put_optional, put_state};
 
-fn put_client(out: &mut [u8], at: usize, l: LockId, m: MachineId, t: TaskId) -> usize {
-    let k = put_field(out, at, b",\"lock\":", l.0 as u16);
-    let k = put_field(out, k, b",\"machine\":", m.0 as u16);
-    put_field(out, k, b",\"task\":", t.0 as u16)
+fn put_client(lines: &mut Lines, kind: &[u8], l: LockId, m: MachineId, t: TaskId) {
+    lines.text(kind);
+    put_field(lines, b",\"lock\":", l.0 as u16);
+    put_field(lines, b",\"machine\":", m.0 as u16);
+    put_field(lines, b",\"task\":", t.0 as u16);
+}
+
+fn put_packet(lines: &mut Lines, kind: &[u8], l: LockId, index: u8) {
+    lines.text(kind);
+    put_field(lines, b",\"lock\":", l.0 as u16);
+    put_field(lines, b",\"index\":", index as u16);
 }
 
 // The record's kind and its fields, as they stand in it.
-fn put_call(out: &mut [u8], at: usize, c: Call) -> usize {
+fn put_call(lines: &mut Lines, c: Call) {
     match c {
         Call::Acquire {
             lock,
@@ -25,184 +32,130 @@ fn put_call(out: &mut [u8], at: usize, c: Call) -> usize {
             task,
             mode,
         } => {
-            let k = put_text(out, at, b",\"kind\":\"acquire\"");
-            let k = put_client(out, k, lock, machine, task);
-            put_field(out, k, b",\"mode\":", mode as u16)
+            put_client(lines, b",\"kind\":\"acquire\"", lock, machine, task);
+            put_field(lines, b",\"mode\":", mode as u16);
         }
         Call::Release {
             lock,
             machine,
             task,
-        } => {
-            let k = put_text(out, at, b",\"kind\":\"release\"");
-            put_client(out, k, lock, machine, task)
-        }
+        } => put_client(lines, b",\"kind\":\"release\"", lock, machine, task),
         Call::Deliver { lock, index } => {
-            let k = put_field(out, at, b",\"kind\":\"deliver\",\"lock\":", lock.0 as u16);
-            put_field(out, k, b",\"index\":", index as u16)
+            put_packet(lines, b",\"kind\":\"deliver\"", lock, index)
         }
-        Call::Lose { lock, index } => {
-            let k = put_field(out, at, b",\"kind\":\"lose\",\"lock\":", lock.0 as u16);
-            put_field(out, k, b",\"index\":", index as u16)
-        }
+        Call::Lose { lock, index } => put_packet(lines, b",\"kind\":\"lose\"", lock, index),
         Call::GiveUp {
             lock,
             machine,
             task,
-        } => {
-            let k = put_text(out, at, b",\"kind\":\"give up\"");
-            put_client(out, k, lock, machine, task)
-        }
+        } => put_client(lines, b",\"kind\":\"give up\"", lock, machine, task),
     }
 }
 
 // Which packet names the client first, on the lock's wire.
-fn named_on(x: Cluster, l: LockId, m: MachineId, t: TaskId) -> Found {
-    if l.0 < LOCKS as u8 {
-        if m.0 < MACHINES as u8 {
-            if t.0 < TASKS as u8 {
-                let s = x.locks[l.0 as usize];
-                return first_naming(s.wire, ClientId(TASKS as u8 * m.0 + t.0));
-            }
+fn named_on(x: &Cluster, l: LockId, m: MachineId, t: TaskId) -> Option<u8> {
+    let s = x.locks.get(l.0 as usize)?;
+    if m.0 < MACHINES as u8 && t.0 < TASKS as u8 {
+        match first_naming(s.wire, ClientId(TASKS as u8 * m.0 + t.0)) {
+            Found::At(index) => Some(index),
+            Found::Nowhere => None,
         }
-    }
-    Found::Nowhere
-}
-
-fn put_found(out: &mut [u8], at: usize, f: Found) -> usize {
-    match f {
-        Found::Nowhere => put_text(out, at, b",\"named\":null"),
-        Found::At(index) => put_field(out, at, b",\"named\":", index as u16),
+    } else {
+        None
     }
 }
 
-// The packet for which an acquire was refused with 6.
-fn put_named(out: &mut [u8], at: usize, c: Call, answer: u8, x: Cluster) -> usize {
-    match c {
-        Call::Acquire {
-            lock,
-            machine,
-            task,
-            mode: _,
-        } => {
-            if answer == 6 {
-                put_found(out, at, named_on(x, lock, machine, task))
-            } else {
-                put_found(out, at, Found::Nowhere)
-            }
-        }
-        Call::Release {
-            lock: _,
-            machine: _,
-            task: _,
-        } => at,
-        Call::Deliver { lock: _, index: _ } => at,
-        Call::Lose { lock: _, index: _ } => at,
-        Call::GiveUp {
-            lock: _,
-            machine: _,
-            task: _,
-        } => at,
+// The packet for which an acquire was refused as its client is still named.
+fn put_named(lines: &mut Lines, c: Call, o: &Outcome) {
+    if let Call::Acquire {
+        lock,
+        machine,
+        task,
+        mode: _,
+    } = c
+    {
+        let named = match o.answer {
+            Answer::Refused(Refusal::StillNamed) => named_on(&o.cluster, lock, machine, task),
+            _ => None,
+        };
+        put_optional(lines, b",\"named\":", named);
     }
 }
 
 // What a machine made of the request.
-fn put_handling(out: &mut [u8], at: usize, h: Handling) -> usize {
-    match h {
-        Handling::None => put_text(out, at, b",\"handling\":null"),
-        Handling::NoAgent => put_text(out, at, b",\"handling\":\"no agent\""),
-        Handling::NotHolder => put_text(out, at, b",\"handling\":\"not a holder\""),
-        Handling::Taken => put_text(out, at, b",\"handling\":\"taken\""),
-    }
+fn put_handling(lines: &mut Lines, h: Handling) {
+    let told: &[u8] = match h {
+        Handling::None => b"null",
+        Handling::NoAgent => b"\"no agent\"",
+        Handling::NotHolder => b"\"not a holder\"",
+        Handling::Taken => b"\"taken\"",
+    };
+    lines.text(b",\"handling\":");
+    lines.text(told);
 }
 
-fn put_counts(out: &mut [u8], at: usize, s: LockState) -> usize {
-    let k = put_field(out, at, b"{\"agents\":", agents_in(s) as u16);
-    let k = put_field(out, k, b",\"marked\":", marks_in(s) as u16);
-    put_text(out, k, b"}")
+fn put_counts(lines: &mut Lines, s: &LockState) {
+    put_field(lines, b",\"counts\":{\"agents\":", agents_in(*s) as u16);
+    put_field(lines, b",\"marked\":", marks_in(*s) as u16);
+    lines.text(b"}");
 }
 
 // The lock's state, and what is counted in it.
-fn put_lock(out: &mut [u8], at: usize, x: Cluster, l: LockId) -> usize {
-    if l.0 < LOCKS as u8 {
-        let i = l.0 as usize;
-        let s = x.locks[i];
-        let k = put_state(out, at, s);
-        let k = put_text(out, k, b",\"counts\":");
-        put_counts(out, k, s)
-    } else {
-        put_text(out, at, b"null,\"counts\":null")
+fn put_lock(lines: &mut Lines, x: &Cluster, l: LockId) {
+    match x.locks.get(l.0 as usize) {
+        Some(s) => {
+            put_state(lines, s);
+            put_counts(lines, s);
+        }
+        None => lines.text(b"null,\"counts\":null"),
     }
-}
-
-// The outcome of a call.
-fn put_outcome(out: &mut [u8], at: usize, c: Call, o: Outcome) -> usize {
-    let a = o.answer;
-    let h = o.handling;
-    let x = o.cluster;
-    let answer = a.number();
-    let k = put_field(out, at, b",\"answer\":", answer as u16);
-    let k = put_named(out, k, c, answer, x);
-    let k = put_handling(out, k, h);
-    let k = put_field(out, k, b",\"preference\":", x.preference as u16);
-    let k = put_text(out, k, b",\"state\":");
-    put_lock(out, k, x, lock_of(c))
 }
 
 // The line of the record with number n, whose call gave the outcome.
-pub fn put_record(out: &mut [u8], at: usize, n: u16, c: Call, o: Outcome) -> usize {
-    let k = put_field(out, at, b"{\"n\":", n);
-    let k = put_call(out, k, c);
-    let k = put_outcome(out, k, c, o);
-    put_text(out, k, b"}\n")
+pub fn put_record(lines: &mut Lines, n: u16, c: Call, o: &Outcome) {
+    put_field(lines, b"{\"n\":", n);
+    put_call(lines, c);
+    put_field(lines, b",\"answer\":", o.answer.number() as u16);
+    put_named(lines, c, o);
+    put_handling(lines, o.handling);
+    put_field(lines, b",\"preference\":", o.cluster.preference as u16);
+    lines.text(b",\"state\":");
+    put_lock(lines, &o.cluster, lock_of(c));
+    lines.text(b"}\n");
 }
 
-fn put_drain(out: &mut [u8], at: usize, x: Cluster, l: u8) -> usize {
-    let d = drain(x, LockId(l));
-    let a = d.answer;
-    let h = d.handling;
-    let k = put_field(out, at, b"{\"lock\":", l as u16);
-    let k = put_field(out, k, b",\"answer\":", a.number() as u16);
-    let k = put_field(out, k, b",\"count\":", d.count);
-    let k = put_handling(out, k, h);
-    put_text(out, k, b"}")
-}
-
-fn put_drains(out: &mut [u8], start: usize, x: Cluster) -> usize {
-    let mut k = start;
-    for l in 0..LOCKS as u8 {
-        k = put_comma(out, start, k);
-        k = put_drain(out, k, x, l);
-    }
-    k
+fn put_drain(lines: &mut Lines, x: &Cluster, l: u8) {
+    let d = drain(*x, LockId(l));
+    put_field(lines, b"{\"lock\":", l as u16);
+    put_field(lines, b",\"answer\":", d.answer.number() as u16);
+    put_field(lines, b",\"count\":", d.count);
+    put_handling(lines, d.handling);
+    lines.text(b"}");
 }
 
 // How the run ended, by its answer.
-fn put_ending(out: &mut [u8], at: usize, answer: u8) -> usize {
-    match answer {
-        0 => put_text(out, at, b"{\"end\":\"end\""),
-        13 => put_text(out, at, b"{\"end\":\"too long\""),
-        16 => put_text(out, at, b"{\"end\":\"bad preference\""),
-        _ => put_text(out, at, b"{\"end\":\"bad record\""),
-    }
+fn put_ending(lines: &mut Lines, answer: Answer) {
+    let end: &[u8] = match answer {
+        Answer::Accepted => b"{\"end\":\"end\"",
+        Answer::Refused(Refusal::TranscriptLength) => b"{\"end\":\"too long\"",
+        Answer::Refused(Refusal::PreferenceRange) => b"{\"end\":\"bad preference\"",
+        Answer::Refused(_) => b"{\"end\":\"bad record\"",
+    };
+    lines.text(end);
 }
 
-// What the run came to, by its number and in counts.
-fn put_run(out: &mut [u8], at: usize, r: Replayed) -> usize {
-    let a = r.answer;
-    let h = r.handling;
-    let answer = a.number();
-    let k = put_ending(out, at, answer);
-    let k = put_field(out, k, b",\"answer\":", answer as u16);
-    let k = put_field(out, k, b",\"records\":", r.records);
-    put_handling(out, k, h)
-}
-
-pub fn put_end(out: &mut [u8], at: usize, r: Replayed) -> usize {
-    let x = r.cluster;
-    let k = put_run(out, at, r);
-    let k = put_field(out, k, b",\"preference\":", x.preference as u16);
-    let k = put_text(out, k, b",\"drains\":[");
-    let k = put_drains(out, k, x);
-    put_text(out, k, b"]}\n")
+// What the run came to, by its number and in counts; and how a drain of each lock would end.
+pub fn put_end(lines: &mut Lines, r: &Replayed) {
+    put_ending(lines, r.answer);
+    put_field(lines, b",\"answer\":", r.answer.number() as u16);
+    put_field(lines, b",\"records\":", r.records);
+    put_handling(lines, r.handling);
+    put_field(lines, b",\"preference\":", r.cluster.preference as u16);
+    lines.text(b",\"drains\":");
+    put_list(
+        lines,
+        0..LOCKS as u8,
+        |lines, l| put_drain(lines, &r.cluster, l),
+    );
+    lines.text(b"}\n");
 }
