@@ -1,99 +1,51 @@
 // The packet that the script makes: `packet ..`.
-use crate::agents;
-use crate::line::{Numbers, word};
+use crate::agents::mode;
+use crate::line::{numbers_in, parted};
 use crate::print::Output;
 use model::{Address, AgentSlot, ClientId, MachineId, Message, Packet};
+use parts::blank::plain_packet;
 
-// A packet without agent, to the decider.
-fn plain(message: Message) -> Packet {
-    let carried = agents::slot(false, 2);
-    Packet {
-        message,
-        to: Address::Decider,
-        rejected: false,
-        circled: 0,
-        carried,
-    }
-}
-
-pub fn blank() -> Packet {
-    plain(Message::Free)
+fn to_decider(message: Message) -> Packet {
+    plain_packet(message, Address::Decider)
 }
 
 fn acquire(c: u8, m: u8, granted: bool) -> Packet {
-    let mode = agents::mode(m);
-    plain(Message::Acquire {
+    to_decider(Message::Acquire {
         client: ClientId(c),
-        mode,
+        mode: mode(m),
         granted,
     })
 }
 
 fn grant(c: u8, m: u8) -> Packet {
-    let mode = agents::mode(m);
-    plain(Message::Grant {
+    to_decider(Message::Grant {
         client: ClientId(c),
-        mode,
+        mode: mode(m),
     })
 }
 
 fn release(c: u8) -> Packet {
-    plain(Message::Release {
+    to_decider(Message::Release {
         client: ClientId(c),
     })
 }
 
-fn addressed(p: Packet, k: u8) -> Packet {
-    let message = p.message;
-    let carried = p.carried;
-    Packet {
-        message,
-        to: Address::Machine(MachineId(k)),
-        rejected: p.rejected,
-        circled: p.circled,
-        carried,
-    }
-}
-
-fn rejected(mut p: Packet) -> Packet {
-    p.rejected = true;
-    p
-}
-
-fn circled(mut p: Packet, n: u8) -> Packet {
-    p.circled = n;
-    p
-}
-
-fn carrying(mut p: Packet, x: AgentSlot) -> Packet {
-    p.carried = x;
-    p
-}
-
-// The packet after the command s, whose numbers are n. The slot x is what it carries when the command says so. The words' places are the cases.
-pub fn made<R: Print>(
-    out: &mut Output<'_, R>,
-    p: Packet,
-    x: AgentSlot,
-    s: &[u8],
-    n: Numbers,
-) -> Packet {
-    let k = word(
-        out,
-        s,
-        n.count,
-        b"2ACQUIRE 2MARKED 2GRANT 1RELEASE 0FREE 1to 0rejected 0carries 1circled",
-    );
-    match k {
-        0 => acquire(n.first, n.second, false),
-        1 => acquire(n.first, n.second, true),
-        2 => grant(n.first, n.second),
-        3 => release(n.first),
-        4 => blank(),
-        5 => addressed(p, n.first),
-        6 => rejected(p),
-        7 => carrying(p, x),
-        8 => circled(p, n.first),
-        _ => p,
+// What the command s makes of the packet. The slot is what it carries when the command says so.
+pub fn made(out: &mut Output<'_, impl Print>, packet: &mut Packet, slot: &AgentSlot, s: &[u8]) {
+    let Some(numbers) = numbers_in(s) else {
+        return out.not_understood(s);
+    };
+    let (word, _) = parted(s);
+    match (word, numbers.as_slice()) {
+        (b"ACQUIRE", &[c, m]) => *packet = acquire(c, m, false),
+        (b"MARKED", &[c, m]) => *packet = acquire(c, m, true),
+        (b"GRANT", &[c, m]) => *packet = grant(c, m),
+        (b"RELEASE", &[c]) => *packet = release(c),
+        (b"FREE", &[]) => *packet = to_decider(Message::Free),
+        (b"to", &[k]) => packet.to = Address::Machine(MachineId(k)),
+        (b"rejected", &[]) => packet.rejected = true,
+        (b"carries", &[]) => packet.carried = *slot,
+        (b"circled", &[n]) => packet.circled = n,
+        _ => out.not_understood(s),
     }
 }

@@ -1,5 +1,6 @@
 // Standard output, piece by piece.
-use model::TASKS;
+use model::{Answer, TASKS};
+use std::fmt::Display;
 use std::io;
 
 // Where the text goes. After a write that failed nothing more is written, and `end` gives its error.
@@ -20,51 +21,51 @@ impl<'a, R: Print> Output<'a, R> {
     pub fn end(self) -> io::Result<()> {
         self.written
     }
-}
 
-pub fn text<R: Print>(out: &mut Output<'_, R>, s: &[u8]) {
-    if out.written.is_ok() {
-        out.written = out.rt.write_all(s);
+    // A part of the script, whatever bytes it has.
+    pub fn text(&mut self, s: &[u8]) {
+        if self.written.is_ok() {
+            self.written = self.rt.write_all(s);
+        }
     }
-}
 
-pub fn long<R: Print>(out: &mut Output<'_, R>, n: u16) {
-    if out.written.is_ok() {
-        out.written = out.rt.print(n);
+    pub fn line(&mut self, s: &[u8]) {
+        self.text(s);
+        self.text(b"\n");
     }
-}
 
-pub fn number<R: Print>(out: &mut Output<'_, R>, n: u8) {
-    long(out, n as u16);
-}
-
-// A client is written machine/task.
-pub fn client<R: Print>(out: &mut Output<'_, R>, c: u8) {
-    number(out, c / TASKS as u8);
-    text(out, b"/");
-    number(out, c % TASKS as u8);
-}
-
-pub fn either<R: Print>(out: &mut Output<'_, R>, yes: bool, a: &[u8], b: &[u8]) {
-    if yes {
-        text(out, a);
-    } else {
-        text(out, b);
+    pub fn print<D: Display + Drop>(&mut self, value: D) {
+        if self.written.is_ok() {
+            self.written = self.rt.print(value);
+        }
     }
-}
 
-pub fn line<R: Print>(out: &mut Output<'_, R>, s: &[u8]) {
-    text(out, s);
-    text(out, b"\n");
-}
+    // A client is written machine/task.
+    pub fn client(&mut self, c: u8) {
+        let (machine, task) = (c / TASKS as u8, c % TASKS as u8);
+        self.print(format_args!("{machine}/{task}"));
+    }
 
-// A number of a command is too large for what it counts.
-pub fn out_of_range<R: Print>(out: &mut Output<'_, R>) {
-    not_understood(out, b"a number out of range");
-}
+    pub fn answer(&mut self, answer: Answer) {
+        self.print(answer.number());
+    }
 
-// What the script says is no command: the line shows in the output, where nothing expects it.
-pub fn not_understood<R: Print>(out: &mut Output<'_, R>, s: &[u8]) {
-    text(out, b"NOT UNDERSTOOD: ");
-    line(out, s);
+    // Writes the place that a number of a command says, or that the number is too large for what it counts.
+    pub fn put<T: Drop>(&mut self, place: Option<&mut T>, value: T) {
+        match place {
+            Some(x) => *x = value,
+            None => self.out_of_range(),
+        }
+    }
+
+    // A number of a command is too large for what it counts.
+    pub fn out_of_range(&mut self) {
+        self.not_understood(b"a number out of range");
+    }
+
+    // What the script says is no command: the line shows in the output, where nothing expects it.
+    pub fn not_understood(&mut self, s: &[u8]) {
+        self.text(b"NOT UNDERSTOOD: ");
+        self.line(s);
+    }
 }
