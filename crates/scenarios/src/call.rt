@@ -1,195 +1,153 @@
 // A call, printed with its answer. After a refusal the line says whether the whole cluster is as it was.
 use crate::handlings;
-use by_hand::line::{Numbers, numbers_in, place};
-use by_hand::print;
+use by_hand::line::{first_numbers, numbers_in, parted};
 use by_hand::print::Output;
-use model::{Call, Cluster, Handling, LockId, MachineId, Outcome, TaskId};
-use std::num::wrapping_add_u8;
+use model::{Answer, Call, Cluster, Handling, LockId, MachineId, TaskId};
 
-// A call's answer, the handling and the cluster that it gives; of a drain, the steps.
+// What a call gives beside the cluster; of a drain, its steps too.
 #[derive(Clone, Copy, Drop)]
 struct Done {
-    known: bool,
-    answer: u8,
+    answer: Answer,
     handling: Handling,
-    drained: bool,
-    steps: u16,
-    cluster: Cluster,
+    steps: Option<u16>,
 }
 
-fn of_call(o: Outcome) -> Done {
-    let a = o.answer;
-    let handling = o.handling;
-    let cluster = o.cluster;
+impl Done {
+    fn is_accepted(self) -> bool {
+        matches!(self.answer, Answer::Accepted)
+    }
+}
+
+// How a call's line is made: the text and the answer, with the handling behind it or not; or the answer alone behind a word, in the line of a bound.
+#[derive(Clone, Copy, Drop)]
+pub enum Line {
+    Answered,
+    Handled,
+    Inside,
+    Outside,
+}
+
+// The call that the text says.
+pub fn call_of(s: &[u8]) -> Option<Call> {
+    let numbers = numbers_in(s)?;
+    let (word, _) = parted(s);
+    match (word, numbers.as_slice()) {
+        (b"acquire", &[l, k, t, mode]) => Some(Call::Acquire {
+            lock: LockId(l),
+            machine: MachineId(k),
+            task: TaskId(t),
+            mode,
+        }),
+        (b"release", &[l, k, t]) => Some(Call::Release {
+            lock: LockId(l),
+            machine: MachineId(k),
+            task: TaskId(t),
+        }),
+        (b"deliver", &[l, index]) => Some(Call::Deliver {
+            lock: LockId(l),
+            index,
+        }),
+        (b"lose", &[l, index]) => Some(Call::Lose {
+            lock: LockId(l),
+            index,
+        }),
+        (b"give-up", &[l, k, t]) => Some(Call::GiveUp {
+            lock: LockId(l),
+            machine: MachineId(k),
+            task: TaskId(t),
+        }),
+        _ => None,
+    }
+}
+
+// The lock that the text says to drain.
+fn drain_of(s: &[u8]) -> Option<LockId> {
+    let numbers = numbers_in(s)?;
+    let (word, _) = parted(s);
+    match (word, numbers.as_slice()) {
+        (b"drain", &[l]) => Some(LockId(l)),
+        _ => None,
+    }
+}
+
+fn performed(x: &mut Cluster, call: Call) -> Done {
+    let made = engine::perform(call, *x);
+    *x = made.cluster;
     Done {
-        known: true,
-        answer: a.number(),
-        handling,
-        drained: false,
-        steps: 0,
-        cluster,
+        answer: made.answer,
+        handling: made.handling,
+        steps: None,
     }
 }
 
-fn drained(x: Cluster, l: u8) -> Done {
-    let d = engine::drain(x, LockId(l));
-    let a = d.answer;
-    let handling = d.handling;
-    let cluster = d.cluster;
+fn drained(x: &mut Cluster, lock: LockId) -> Done {
+    let made = engine::drain(*x, lock);
+    *x = made.cluster;
     Done {
-        known: true,
-        answer: a.number(),
-        handling,
-        drained: true,
-        steps: d.count,
-        cluster,
+        answer: made.answer,
+        handling: made.handling,
+        steps: Some(made.count),
     }
 }
 
-fn unknown(cluster: Cluster) -> Done {
-    Done {
-        known: false,
-        answer: 0,
-        handling: Handling::None,
-        drained: false,
-        steps: 0,
-        cluster,
+// Makes the call or the drain that the text says, if it says one.
+fn make(x: &mut Cluster, s: &[u8]) -> Option<Done> {
+    match call_of(s) {
+        Some(call) => Some(performed(x, call)),
+        None => Some(drained(x, drain_of(s)?)),
     }
 }
 
-// The words' places in `read` are the cases.
-fn call_of(k: usize, n: Numbers) -> Call {
-    let lock = LockId(n.first);
-    let machine = MachineId(n.second);
-    let task = TaskId(n.third);
-    match k {
-        0 => Call::Acquire {
-            lock,
-            machine,
-            task,
-            mode: n.fourth,
-        },
-        1 => Call::Release {
-            lock,
-            machine,
-            task,
-        },
-        2 => Call::Deliver {
-            lock,
-            index: n.second,
-        },
-        3 => Call::Lose {
-            lock,
-            index: n.second,
-        },
-        _ => Call::GiveUp {
-            lock,
-            machine,
-            task,
-        },
+fn answered(out: &mut Output<'_, impl Print>, done: Done) {
+    out.answer(done.answer);
+    if let Some(steps) = done.steps {
+        out.print(format_args!(" steps {steps}"));
     }
 }
 
-// The call that the text says, or the drain. One call for all kinds: each would take a cluster's room on the stack.
-fn read(x: Cluster, s: &[u8]) -> Done {
-    let n = numbers_in(s);
-    let k = place(
-        s,
-        n.count,
-        b"4acquire 3release 2deliver 2lose 3give-up 1drain",
-    );
-    if k < 5 {
-        return of_call(engine::perform(call_of(k, n), x));
-    }
-    if k == 5 {
-        return drained(x, n.first);
-    }
-    unknown(x)
-}
-
-fn answered<R: Print>(out: &mut Output<'_, R>, x: Cluster, d: Done) {
-    print::number(out, d.answer);
-    if d.drained {
-        print::text(out, b" steps ");
-        print::long(out, d.steps);
-    }
-    if d.answer != 0 {
-        print::either(
-            out,
-            same::clusters(x, d.cluster),
-            b" unchanged",
-            b" CHANGED",
-        );
-    }
-}
-
-// The call that s says: prints a and b, the answer, the handling if that is asked for, and c.
-fn told<R: Print>(
-    out: &mut Output<'_, R>,
-    x: Cluster,
-    s: &[u8],
-    a: &[u8],
-    b: &[u8],
-    handled: bool,
-    c: &[u8],
-) -> Cluster {
-    let d = read(x, s);
-    if d.known {
-        print::text(out, a);
-        print::text(out, b);
-        answered(out, x, d);
-        if handled {
-            let h = d.handling;
-            handlings::told(out, h);
+// Makes the call that s says, and prints its line.
+pub fn called(out: &mut Output<'_, impl Print>, x: &mut Cluster, s: &[u8], line: Line) {
+    let before = *x;
+    let Some(done) = make(x, s) else {
+        return out.not_understood(s);
+    };
+    match line {
+        Line::Answered | Line::Handled => {
+            out.text(s);
+            out.text(b": ");
         }
-        print::text(out, c);
-    } else {
-        print::not_understood(out, s);
+        Line::Inside => out.text(b": inside "),
+        Line::Outside => out.text(b", outside "),
     }
-    d.cluster
+    answered(out, done);
+    if !done.is_accepted() {
+        let same = same::clusters(before, *x);
+        out.text(if same { b" unchanged" } else { b" CHANGED" });
+    }
+    if let Line::Handled = line {
+        handlings::told(out, done.handling);
+    }
+    if !matches!(line, Line::Inside) {
+        out.text(b"\n");
+    }
 }
 
-// The text and the answer on a line, with the handling behind it where that is asked for.
-pub fn called<R: Print>(out: &mut Output<'_, R>, x: Cluster, s: &[u8], handled: bool) -> Cluster {
-    told(out, x, s, s, b": ", handled, b"\n")
+// The same where the cluster that the call gives is not kept.
+pub fn tried(out: &mut Output<'_, impl Print>, mut x: Cluster, s: &[u8], line: Line) {
+    called(out, &mut x, s, line);
 }
 
-// The call n times over, and how many of them were accepted; u is the text that says both.
-pub fn repeated<R: Print>(
-    out: &mut Output<'_, R>,
-    x: Cluster,
-    n: u8,
-    u: &[u8],
-    s: &[u8],
-) -> Cluster {
-    let mut y = x;
+// The text s says how often, and then a call: prints how many of these were accepted.
+pub fn repeated(out: &mut Output<'_, impl Print>, x: &mut Cluster, s: &[u8]) {
+    let [times] = first_numbers::<1>(s);
+    let (_, call) = parted(s);
     let mut accepted: u8 = 0;
-    for i in 0..n {
-        let d = read(y, s);
-        y = d.cluster;
-        if d.known {
-            if d.answer == 0 {
-                accepted = wrapping_add_u8(accepted, 1);
-            }
+    for i in 0..times {
+        if make(x, call).is_some_and(|done| done.is_accepted()) {
+            accepted += 1;
         }
     }
-    print::text(out, b"times ");
-    print::text(out, u);
-    print::text(out, b": accepted ");
-    print::number(out, accepted);
-    print::text(out, b"\n");
-    y
-}
-
-fn chosen<'a>(first: bool, s: &'a [u8], r: &'a [u8]) -> &'a [u8] {
-    if first { s } else { r }
-}
-
-// The call where the cluster that it gives is not kept, by the command's place: `try`, the same as `called`; `inside`, 4, and `outside`, 5, the answer alone
-// behind a word. One call for all three: each would take a cluster's room on the stack.
-pub fn tried<R: Print>(out: &mut Output<'_, R>, x: Cluster, k: usize, s: &[u8]) {
-    let front = chosen(k == 4, b": ", chosen(k == 5, b", ", s));
-    let before = chosen(k == 4, b"inside ", chosen(k == 5, b"outside ", b": "));
-    let behind = chosen(k == 4, b"", b"\n");
-    told(out, x, s, front, before, false, behind);
+    out.text(b"times ");
+    out.text(s);
+    out.print(format_args!(": accepted {accepted}\n"));
 }
