@@ -1,14 +1,13 @@
-// docs/random-runs.md, 'Hand-made states': the agent, faults 1, 2, 3 and 9. As there, f is the slot's fault or 0, v its number, s the generator's state.
-ghost use Rattle.std.specs.Prelude.{◌<◌};
-ghost use Rattle.model.specs.States.{clients, queue_capacity};
-
-use crate::generator::draw;
+// docs/random-runs.md, 'Hand-made states': the agent, with the fault of its slot: 1, 2, 3 or 9.
+use crate::fault::Fault;
+use crate::generator::Generator;
 use model::{Agent, AgentSlot, CLIENTS, ClientId, Mode, QUEUE_CAPACITY, Queue, Waiter};
-use std::num::wrapping_add_u8;
+use parts::blank::{blank_waiter, no_agent, some_agent};
+use std::array;
 
 // 2 + draw(2) of the page.
-pub fn mode(s: &mut u32) -> Mode {
-    if draw(s, 2) == 0 {
+pub fn mode(g: &mut Generator) -> Mode {
+    if g.draw(2) == 0 {
         Mode::Exclusive
     } else {
         Mode::Shared
@@ -16,216 +15,103 @@ pub fn mode(s: &mut u32) -> Mode {
 }
 
 // (254 + draw(4)) mod 256: near 255, so that runs pass it.
-pub fn incarnation(s: &mut u32) -> u8 {
-    wrapping_add_u8(254, draw(s, 4))
+pub fn incarnation(g: &mut Generator) -> u8 {
+    g.draw(4).wrapping_add(254)
 }
 
-fn blank_waiter() -> Waiter {
-    Waiter {
-        client: ClientId(0),
-        mode: Mode::Exclusive,
-    }
-}
+// A client is a holder if draw(16) is below the entry.
+const HOLDER_ODDS: [u8; 4] = [0, 1, 4, 12];
 
-// A client is a holder if draw(16) is below this.
-fn holder_odds(i: u8) -> u8 {
-    match i {
-        0 => 0,
-        1 => 1,
-        2 => 4,
-        _ => 12,
-    }
-}
+const QUEUE_LENGTHS: [u8; 8] = [0, 0, 0, 1, 2, 3, 15, 16];
 
-fn holders(s: &mut u32, odds: u8) -> [bool; CLIENTS] {
-    let mut set = [false; CLIENTS];
-    for i in 0..CLIENTS {
-        set[i] = draw(s, 16) < odds;
-    }
-    set
-}
-
-// The page's table of lengths.
-fn queue_length(i: u8) -> u8 {
-    match i {
-        3 => 1,
-        4 => 2,
-        5 => 3,
-        6 => 15,
-        7 => 16,
-        _ => 0,
-    }
+fn holders(g: &mut Generator) -> [bool; CLIENTS] {
+    let odds = HOLDER_ODDS[usize::from(g.draw(4))];
+    array::from_fn(|_| g.draw(16) < odds)
 }
 
 // Waiter i after the first, whose client is given.
-fn waiter(s: &mut u32, first: u8, i: u8) -> Waiter
-    requires { (first < clients) × (i < queue_capacity) }
-{
-    let m = mode(s);
+fn waiter(g: &mut Generator, first: u8, i: u8) -> Waiter {
     Waiter {
-        client: ClientId((first + 5 * i) % 16),
-        mode: m,
+        client: ClientId(((u16::from(first) + 5 * u16::from(i)) % 16) as u8),
+        mode: mode(g),
     }
 }
 
 // A waiter for every slot, of which the queue has the first.
-fn waiters(s: &mut u32) -> [Waiter; QUEUE_CAPACITY] {
-    let c = draw(s, 16);
-    let blank = blank_waiter();
-    let mut slots = [blank; QUEUE_CAPACITY];
-    let mut i: u8 = 0;
-    while i < QUEUE_CAPACITY as u8 {
-        let w = waiter(s, c, i);
-        slots[i as usize] = w;
-        i += 1;
+fn queue(g: &mut Generator) -> Queue {
+    let len = QUEUE_LENGTHS[usize::from(g.draw(8))];
+    let first = g.draw(16);
+    let mut slots = [blank_waiter(); QUEUE_CAPACITY];
+    for (slot, i) in slots.iter_mut().zip(0..QUEUE_CAPACITY as u8) {
+        *slot = waiter(g, first, i);
     }
-    slots
+    Queue { slots, len }
 }
 
 // The drawn agent; its unused waiters still stand.
-pub fn agent(s: &mut u32) -> Agent {
-    let m = mode(s);
-    let n = incarnation(s);
-    let odds = holder_odds(draw(s, 4));
-    let set = holders(s, odds);
-    let q = queue_length(draw(s, 8));
-    let slots = waiters(s);
-    let queue = Queue { slots, len: q };
+pub fn agent(g: &mut Generator) -> Agent {
     Agent {
-        mode: m,
-        holders: set,
-        queue,
-        incarnation: n,
+        mode: mode(g),
+        incarnation: incarnation(g),
+        holders: holders(g),
+        queue: queue(g),
     }
 }
 
-// The waiters from n on are blank.
-fn cut(slots: [Waiter; QUEUE_CAPACITY], n: u8) -> [Waiter; QUEUE_CAPACITY] {
-    let blank = blank_waiter();
-    let mut b = slots;
-    let mut i = n;
-    while i < QUEUE_CAPACITY as u8 {
-        b[i as usize] = blank;
-        i += 1;
-    }
-    b
-}
-
-fn with_client(w: Waiter, c: u8) -> Waiter {
-    let m = w.mode;
-    Waiter {
-        client: ClientId(c),
-        mode: m,
-    }
-}
-
-// Fault 1: the last waiter's client is above 15.
-fn unknown_waiter(mut q: Queue, v: u8) -> Queue {
-    let n = q.len;
-    if 1 <= n {
-        if n <= QUEUE_CAPACITY as u8 {
-            let last = (n - 1) as usize;
-            let w = q.slots[last];
-            let x = with_client(w, wrapping_add_u8(16, v));
-            q.slots[last] = x;
+// The last waiter of the queue, if it has one, is this client.
+fn rename_last(q: &mut Queue, client: ClientId) {
+    if let Some(i) = q.len.checked_sub(1) {
+        if let Some(w) = q.slots.get_mut(usize::from(i)) {
+            w.client = client;
         }
     }
-    q
 }
 
-// Fault 2: the last waiter's client is the first one's.
-fn double_waiter(mut q: Queue) -> Queue {
-    let n = q.len;
-    if 2 <= n {
-        if n <= QUEUE_CAPACITY as u8 {
-            let last = (n - 1) as usize;
-            let first = q.slots[0];
-            let c = first.client;
-            let w = q.slots[last];
-            let x = with_client(w, c.0);
-            q.slots[last] = x;
+// The faults of a queue whose unused waiters are blank.
+fn spoil(q: &mut Queue, fault: Option<Fault>) {
+    match fault {
+        Some(Fault::UnknownWaiter(v)) => rename_last(q, ClientId(v.wrapping_add(16))),
+        Some(Fault::DoubleWaiter) => {
+            let first = q.slots[0].client;
+            rename_last(q, first)
         }
+        Some(Fault::NotBlank) if usize::from(q.len) < QUEUE_CAPACITY => {
+            q.slots[QUEUE_CAPACITY - 1] = Waiter {
+                client: ClientId(1),
+                mode: Mode::Shared,
+            };
+        }
+        _ => {}
+    }
+}
+
+// With fault 3 the unused waiters stand too, otherwise they are blank.
+fn queue_with(mut q: Queue, fault: Option<Fault>) -> Queue {
+    if let Some(Fault::LongQueue(v)) = fault {
+        q.len = v.wrapping_add(17);
+    } else {
+        let used = usize::from(q.len);
+        for waiter in q.slots.iter_mut().skip(used) {
+            *waiter = blank_waiter();
+        }
+        spoil(&mut q, fault);
     }
     q
-}
-
-// Fault 9 where there is an agent: an unused waiter is not blank.
-fn stray_waiter(mut q: Queue) -> Queue {
-    if q.len < QUEUE_CAPACITY as u8 {
-        let w = Waiter {
-            client: ClientId(1),
-            mode: Mode::Shared,
-        };
-        q.slots[QUEUE_CAPACITY - 1] = w;
-    }
-    q
-}
-
-// The queue with the faults 1, 2, 3 and 9.
-fn queue(q: Queue, f: u8, v: u8) -> Queue {
-    let slots = q.slots;
-    let n = q.len;
-    if f == 3 {
-        return Queue {
-            slots,
-            len: wrapping_add_u8(17, v),
-        };
-    }
-    let used = cut(slots, n);
-    let r = Queue {
-        slots: used,
-        len: n,
-    };
-    match f {
-        1 => unknown_waiter(r, v),
-        2 => double_waiter(r),
-        9 => stray_waiter(r),
-        _ => r,
-    }
-}
-
-pub fn no_agent() -> AgentSlot {
-    let blank = blank_waiter();
-    let slots = [blank; QUEUE_CAPACITY];
-    let queue = Queue { slots, len: 0 };
-    let holders = [false; CLIENTS];
-    let agent = Agent {
-        mode: Mode::Exclusive,
-        holders,
-        queue,
-        incarnation: 0,
-    };
-    AgentSlot {
-        present: false,
-        agent,
-    }
-}
-
-// Fault 9 where there is no agent: the one that is not there.
-fn absent(mut a: Agent) -> AgentSlot {
-    a.incarnation = 1;
-    AgentSlot {
-        present: false,
-        agent: a,
-    }
-}
-
-fn present(mut a: Agent, f: u8, v: u8) -> AgentSlot {
-    let q = a.queue;
-    let r = queue(q, f, v);
-    a.queue = r;
-    AgentSlot {
-        present: true,
-        agent: a,
-    }
 }
 
 // The drawn agent, if it is there, with the fault of its slot.
-pub fn agent_slot(there: bool, a: Agent, f: u8, v: u8) -> AgentSlot {
+pub fn agent_slot(there: bool, a: Agent, fault: Option<Fault>) -> AgentSlot {
     if there {
-        present(a, f, v)
-    } else if f == 9 {
-        absent(a)
+        let queue = queue_with(a.queue, fault);
+        some_agent(Agent { queue, ..a })
+    } else if matches!(fault, Some(Fault::NotBlank)) {
+        AgentSlot {
+            present: false,
+            agent: Agent {
+                incarnation: 1,
+                ..a
+            },
+        }
     } else {
         no_agent()
     }

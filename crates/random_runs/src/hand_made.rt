@@ -1,17 +1,20 @@
 // docs/random-runs.md, 'Hand-made states': the lock, with the faults 10 to 12, 14 and 16, and the cluster, with fault 13.
-ghost use Rattle.std.specs.Prelude.{◌≤◌};
-ghost use Rattle.model.specs.States.{wire_capacity};
+ghost use Rattle.std.specs.Prelude.{◌<◌, ◌≤◌};
+ghost use Rattle.model.specs.States.{locks, wire_capacity};
 
-use crate::agent::{agent, agent_slot, incarnation, no_agent};
-use crate::fault::{Fault, fault_at};
-use crate::generator::draw;
-use crate::packet::{blank_packet, packet, plain};
+use crate::agent::{agent, agent_slot, incarnation};
+use crate::fault::{Fault, Placed};
+use crate::generator::Generator;
+use crate::packet::packet;
 use model::{
-    AgentSlot, CLIENTS, ClientId, ClientState, Cluster, Decider, LOCKS, LockState, MACHINES,
+    Address, AgentSlot, CLIENTS, ClientId, ClientState, Cluster, Decider, LockState, MACHINES,
     MachineId, Message, Mode, Owner, Packet, Status, WIRE_CAPACITY, Wire,
 };
+use parts::blank::{blank_packet, no_agent, plain_packet};
 use parts::state::is_waiting;
-use std::num::wrapping_add_u8;
+use std::array;
+
+const WIRE_LENGTHS: [u8; 16] = [0, 0, 1, 1, 1, 2, 2, 2, 3, 3, 4, 5, 6, 47, 48, 49];
 
 // 0 free, 1 exclusive, 2 and 3 shared.
 fn owner(k: u8, machine: u8) -> Owner {
@@ -22,56 +25,41 @@ fn owner(k: u8, machine: u8) -> Owner {
     }
 }
 
-// The decider's bit for a writer, in a cluster that prefers writers or not; with fault 14.
-fn writer(prefers: bool, f: Fault) -> bool {
-    if f.kind == 14 {
-        true
-    } else {
-        prefers & (f.value % 2 == 1)
-    }
-}
-
-// Item 2, with fault 10.
-fn decider(s: &mut u32, prefers: bool, f: Fault) -> Decider {
-    let k = draw(s, 4);
-    let machine = draw(s, 4);
-    let n = incarnation(s);
-    let o = if f.kind == 10 {
-        owner(k, wrapping_add_u8(4, f.value))
-    } else {
-        owner(k, machine)
+// Item 2, with the faults 10 and 14; writer is the bit without them.
+fn decider(g: &mut Generator, writer: bool, fault: Option<Fault>) -> Decider {
+    let k = g.draw(4);
+    let drawn = g.draw(4);
+    let machine = match fault {
+        Some(Fault::UnknownOwner(v)) => v.wrapping_add(4),
+        _ => drawn,
     };
     Decider {
-        owner: o,
-        incarnation: n,
-        writer: writer(prefers, f),
+        owner: owner(k, machine),
+        incarnation: incarnation(g),
+        writer: writer || matches!(fault, Some(Fault::Writer)),
     }
 }
 
 // The agent of machine k is there if x is below this.
 fn agent_odds(o: Owner, k: u8) -> u8 {
     match o {
-        Owner::Free => 1,
-        Owner::Owned(_, m) => if m.0 == k { 6 } else { 1 },
+        Owner::Owned(_, m) if m.0 == k => 6,
+        _ => 1,
     }
 }
 
 // Item 3 for machine k.
-fn on_machine(s: &mut u32, o: Owner, k: u8, f: Fault) -> AgentSlot {
-    let x = draw(s, 8);
-    let a = agent(s);
-    agent_slot(x < agent_odds(o, k), a, fault_at(f, k), f.value)
+fn on_machine(g: &mut Generator, o: Owner, k: u8, fault: Option<Fault>) -> AgentSlot {
+    let x = g.draw(8);
+    let a = agent(g);
+    agent_slot(x < agent_odds(o, k), a, fault)
 }
 
 // Item 3 for all.
-fn agents(s: &mut u32, o: Owner, f: Fault) -> [AgentSlot; MACHINES] {
-    let none = no_agent();
-    let mut slots = [none; MACHINES];
-    let mut k: u8 = 0;
-    while k < MACHINES as u8 {
-        let x = on_machine(s, o, k, f);
-        slots[k as usize] = x;
-        k += 1;
+fn agents(g: &mut Generator, o: Owner, placed: Placed) -> [AgentSlot; MACHINES] {
+    let mut slots = [no_agent(); MACHINES];
+    for (slot, k) in slots.iter_mut().zip(0..MACHINES as u8) {
+        *slot = on_machine(g, o, k, placed.at(k));
     }
     slots
 }
@@ -87,151 +75,102 @@ fn status(n: u8) -> Status {
 }
 
 // Item 4 for one client.
-fn client(s: &mut u32) -> ClientState {
-    let x = status(draw(s, 8));
-    let noted = draw(s, 4) == 0;
-    let waits = is_waiting(x);
+fn client(g: &mut Generator) -> ClientState {
+    let status = status(g.draw(8));
+    let y = g.draw(4);
     ClientState {
-        status: x,
-        lost: waits & noted,
+        status,
+        lost: is_waiting(status) && y == 0,
     }
 }
 
-// Item 4 for all.
-fn clients(s: &mut u32) -> [ClientState; CLIENTS] {
-    let idle = ClientState {
-        status: Status::Idle,
-        lost: false,
-    };
-    let mut states = [idle; CLIENTS];
-    for i in 0..CLIENTS {
-        let x = client(s);
-        states[i] = x;
+// Item 4 for all, with fault 16.
+fn clients(g: &mut Generator, fault: Option<Fault>) -> [ClientState; CLIENTS] {
+    let mut states = array::from_fn(|_| client(g));
+    if let Some(Fault::Note(v)) = fault {
+        states[usize::from(v % 16)].lost = true;
     }
     states
 }
 
-// Fault 16: a client has the note, whatever its status is.
-fn noted(mut a: [ClientState; CLIENTS], f: Fault) -> [ClientState; CLIENTS] {
-    if f.kind == 16 {
-        let i = (f.value % 16) as usize;
-        let x = a[i];
-        let status = x.status;
-        a[i] = ClientState { status, lost: true };
-    }
-    a
-}
-
 // Item 5: the wire's slots, with n packets.
-fn packets(s: &mut u32, n: u8, f: Fault) -> [Packet; WIRE_CAPACITY]
+fn packets(g: &mut Generator, n: u8, placed: Placed) -> [Packet; WIRE_CAPACITY]
     requires { n ≤ wire_capacity }
 {
-    let blank = blank_packet();
-    let mut slots = [blank; WIRE_CAPACITY];
-    let mut i: u8 = 0;
-    while i < n {
-        let p = packet(s, fault_at(f, 4 + i), f.value);
-        slots[i as usize] = p;
-        i += 1;
+    let mut slots = [blank_packet(); WIRE_CAPACITY];
+    for (slot, t) in slots.iter_mut().zip(4..4 + n) {
+        *slot = packet(g, placed.at(t));
     }
     slots
 }
 
-fn stray_packet() -> Packet {
-    plain(Message::Release {
-        client: ClientId(1),
-    })
-}
-
 // The wire with the faults 11 and 12.
-fn wire(slots: [Packet; WIRE_CAPACITY], n: u8, f: Fault) -> Wire {
+fn wire(slots: [Packet; WIRE_CAPACITY], n: u8, fault: Option<Fault>) -> Wire {
     let mut w = Wire { slots, len: n };
-    if f.kind == 11 {
-        w.len = 50 + f.value % 206;
-    }
-    if f.kind == 12 {
-        if n < WIRE_CAPACITY as u8 {
-            let p = stray_packet();
-            w.slots[WIRE_CAPACITY - 1] = p;
+    match fault {
+        Some(Fault::LongWire(v)) => w.len = 50 + v % 206,
+        Some(Fault::StrayPacket) if usize::from(n) < WIRE_CAPACITY => {
+            let client = ClientId(1);
+            w.slots[WIRE_CAPACITY - 1] = plain_packet(
+                Message::Release { client },
+                Address::Decider,
+            );
         }
+        _ => {}
     }
     w
 }
 
-// The page's table of lengths.
-fn wire_length(i: u8) -> u8
+// Fault 11 wants all 49 slots drawn.
+fn packet_count(i: u8, fault: Option<Fault>) -> u8
+    requires { i < 16 }
     ensures { result ≤ wire_capacity }
 {
-    match i {
-        0 | 1 => 0,
-        2 | 3 | 4 => 1,
-        5 | 6 | 7 => 2,
-        8 | 9 => 3,
-        10 => 4,
-        11 => 5,
-        12 => 6,
-        13 => 47,
-        14 => 48,
-        _ => 49,
+    match fault {
+        Some(Fault::LongWire(_)) => 49,
+        _ => WIRE_LENGTHS[usize::from(i)],
     }
 }
 
-// Fault 11 wants all 49 slots drawn.
-fn packet_count(kind: u8, i: u8) -> u8
-    ensures { result ≤ wire_capacity }
-{
-    if kind == 11 { 49 } else { wire_length(i) }
-}
-
-// A lock with its fault, which item 1 gives with the number of its packets.
-#[derive(Clone, Copy, Drop)]
-struct Drawn {
-    fault: Fault,
-    lock: LockState,
-}
-
-fn lock(s: &mut u32, prefers: bool) -> Drawn {
-    let kind = draw(s, 17);
-    let value = draw(s, 239);
-    let n = packet_count(kind, draw(s, 16));
-    let slot = draw(s, 4 + n as u16);
-    let f = Fault { kind, value, slot };
-    let decider = decider(s, prefers, f);
-    let o = decider.owner;
-    let agents = agents(s, o, f);
-    let clients = noted(clients(s), f);
-    let slots = packets(s, n, f);
-    let wire = wire(slots, n, f);
+// A lock and its fault.
+fn lock(g: &mut Generator, prefers: bool) -> (LockState, Option<Fault>) {
+    let f = g.draw(17);
+    let v = g.draw(239);
+    let fault = Fault::numbered(f, v);
+    let n = packet_count(g.draw(16), fault);
+    let slot = g.draw(4 + u16::from(n));
+    let placed = Placed { fault, slot };
+    let decider = decider(g, prefers && v % 2 == 1, fault);
+    let agents = agents(g, decider.owner, placed);
+    let clients = clients(g, fault);
+    let wire = wire(packets(g, n, placed), n, fault);
     let lock = LockState {
         decider,
         agents,
         clients,
         wire,
     };
-    Drawn { fault: f, lock }
+    (lock, fault)
 }
 
-// The cluster with the lock in its place; fault 13 is the cluster's.
-fn with_lock(mut x: Cluster, at: usize, d: Drawn) -> Cluster {
-    let f = d.fault;
-    let s = d.lock;
-    if f.kind == 13 {
-        x.preference = wrapping_add_u8(2, f.value);
+// A lock of the cluster is drawn; fault 13 is the cluster's.
+fn draw_lock(x: &mut Cluster, g: &mut Generator, at: u32, prefers: bool)
+    requires { at < locks }
+{
+    let (lock, fault) = lock(g, prefers);
+    x.locks[at as usize] = lock;
+    if let Some(Fault::Preference(v)) = fault {
+        x.preference = v.wrapping_add(2);
     }
-    if at < LOCKS {
-        x.locks[at] = s;
-    }
-    x
 }
 
 // The cluster of a seed.
-pub fn cluster(s: &mut u32, seed: u32) -> Cluster {
-    let prefers = (seed / 32) % 2 == 1;
-    let made = engine::fresh(if prefers { 1 } else { 0 });
-    let x = with_lock(made.cluster, (seed % 8) as usize, lock(s, prefers));
-    if (seed / 8) % 2 == 1 {
-        with_lock(x, ((seed % 8 + 1) % 8) as usize, lock(s, prefers))
-    } else {
-        x
+pub fn cluster(g: &mut Generator, seed: u32) -> Cluster {
+    let prefers = seed / 32 % 2 == 1;
+    let mut x = engine::fresh(u8::from(prefers)).cluster;
+    draw_lock(&mut x, g, seed % 8, prefers);
+    if seed / 8 % 2 == 1 {
+        draw_lock(&mut x, g, (seed % 8 + 1) % 8, prefers);
     }
+    x
 }

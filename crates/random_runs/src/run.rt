@@ -1,191 +1,154 @@
 // docs/random-runs.md, 'A step' and 'Runs'.
-use crate::choice::{Choice, choose};
-use crate::generator;
-use crate::line::Line;
+use crate::choice::{Arguments, choose};
+use crate::generator::Generator;
 use crate::profile::Profile;
-use model::{
-    ClientId, Cluster, LOCKS, LockId, LockState, MACHINES, MachineId, Outcome, TASKS, TaskId,
-};
+use lock_calls::client_of;
+use model::{Call, Cluster, LockId, MACHINES, Outcome, TASKS};
 use parts::search::first_naming;
 use std::io;
 
-// What goes on from step to step, beside the generator. It is lent: a cluster has 25 KB, and each step copies one as seldom as the calls allow.
-#[derive(Clone, Copy, Drop)]
-pub struct Progress {
+// A run from a cluster, made by hand or fresh: it is lent, as a cluster has 25 KB, and each step copies one as seldom as the calls allow.
+#[derive(Drop)]
+pub struct Run {
+    // With which its lines begin.
+    word: &'static str,
+    seed: u32,
+    profile: Profile,
+    generator: Generator,
     cluster: Cluster,
     digest: u32,
     accepted: u16,
 }
 
-// Item 1: the lock of the call is drained.
-fn drained(r: &mut Progress, seed: u32, lock: u8) {
-    let d = engine::drain(r.cluster, LockId(lock));
-    let a = d.answer;
-    let told = d.handling;
-    let h = digest::byte(digest::byte(r.digest, 4), a.number());
-    let h = digest::handling(h, told);
-    let h = digest::byte(
-        digest::byte(h, (d.count % 256) as u8),
-        (d.count / 256) as u8,
-    );
-    r.digest = digest::cluster(h, d.cluster);
-    if (seed / 16) % 2 == 1 {
-        r.cluster = d.cluster;
+// The digest goes on over some bytes.
+pub fn digested(h: u32, bytes: &[u8]) -> u32 {
+    bytes.iter().fold(h, |h, b| digest::byte(h, *b))
+}
+
+fn perform(x: Cluster, call: Call) -> Outcome {
+    match call {
+        Call::Acquire {
+            lock,
+            machine,
+            task,
+            mode,
+        } => engine::acquire(x, lock, machine, task, mode),
+        Call::Release {
+            lock,
+            machine,
+            task,
+        } => engine::release(x, lock, machine, task),
+        Call::Deliver { lock, index } => engine::deliver(x, lock, index),
+        Call::Lose { lock, index } => engine::lose(x, lock, index),
+        Call::GiveUp {
+            lock,
+            machine,
+            task,
+        } => engine::give_up(x, lock, machine, task),
     }
 }
 
-fn perform(x: Cluster, c: Choice) -> Outcome {
-    let kind = c.kind;
-    match kind {
-        1 => engine::acquire(
-            x,
-            LockId(c.lock),
-            MachineId(c.machine),
-            TaskId(c.task),
-            c.mode,
-        ),
-        2 => engine::release(x, LockId(c.lock), MachineId(c.machine), TaskId(c.task)),
-        6 => engine::lose(x, LockId(c.lock), c.index),
-        7 => engine::give_up(x, LockId(c.lock), MachineId(c.machine), TaskId(c.task)),
-        _ => engine::deliver(x, LockId(c.lock), c.index),
+// The page's number of the call.
+fn kind_number(call: &Call) -> u8 {
+    match call {
+        Call::Acquire { .. } => 1,
+        Call::Release { .. } => 2,
+        Call::Deliver { .. } => 3,
+        Call::Lose { .. } => 6,
+        Call::GiveUp { .. } => 7,
     }
 }
 
-// One more where the answer is 0.
-fn counted(accepted: u16, answer: u8) -> u16 {
-    if answer == 0 {
-        std::num::wrapping_add_u16(accepted, 1)
-    } else {
-        accepted
-    }
-}
-
-// Item 2: the call is made.
-fn called(r: &mut Progress, c: Choice) {
-    let o = perform(r.cluster, c);
-    let a = o.answer;
-    let n = a.number();
-    let told = o.handling;
-    let h = digest::byte(digest::byte(r.digest, c.kind), n);
-    r.cluster = o.cluster;
-    r.digest = digest::handling(h, told);
-    r.accepted = counted(r.accepted, n);
-}
-
-// Item 3: why the chosen client waits.
-fn asked(r: &mut Progress, c: Choice) {
-    let a = engine::reason(
-        r.cluster,
-        LockId(c.lock),
-        MachineId(c.machine),
-        TaskId(c.task),
-    );
-    r.digest = digest::reason(r.digest, a);
-}
-
-// Item 4, on the lock's state, where machine and task are in range.
-fn searched(h: u32, s: LockState, machine: u8, task: u8) -> u32 {
-    if machine < MACHINES as u8 {
-        if task < TASKS as u8 {
-            let f = first_naming(s.wire, ClientId(TASKS as u8 * machine + task));
-            return digest::found(h, f);
+impl Run {
+    pub fn new(
+        word: &'static str,
+        seed: u32,
+        profile: Profile,
+        generator: Generator,
+        cluster: Cluster,
+    ) -> Self {
+        Run {
+            word,
+            seed,
+            profile,
+            generator,
+            cluster,
+            digest: digest::cluster(seed, cluster),
+            accepted: 0,
         }
     }
-    h
-}
 
-// Item 4: which packet names the chosen client first.
-fn named(r: &mut Progress, c: Choice) {
-    if c.lock < LOCKS as u8 {
-        let s = r.cluster.locks[c.lock as usize];
-        r.digest = searched(r.digest, s, c.machine, c.task);
-    }
-}
-
-// Item 5: the cluster's bytes, after every sixteenth step.
-fn sampled(r: &mut Progress, n: u16) {
-    if n % 16 == 0 {
-        r.digest = digest::cluster(r.digest, r.cluster);
-    }
-}
-
-// The call is chosen before the drain.
-fn step(r: &mut Progress, s: &mut u32, p: Profile, seed: u32, n: u16) {
-    let o = generator::eight_outputs(s);
-    let c = choose(p, seed, &r.cluster, o);
-    if o.o0 % 64 == 0 {
-        drained(r, seed, c.lock);
-    }
-    called(r, c);
-    asked(r, c);
-    named(r, c);
-    sampled(r, n);
-}
-
-fn heading(word: &[u8], seed: u32) -> Line {
-    Line::new(word).number(seed)
-}
-
-// The line after each 512 steps, except the last.
-fn write_progress(
-    rt: &impl Print,
-    word: &[u8],
-    seed: u32,
-    n: u16,
-    steps: u16,
-    digest: u32,
-) -> io::Result<()> {
-    if n % 512 == 0 {
-        if n < steps {
-            heading(word, seed)
-                .text(b" step ")
-                .number(n as u32)
-                .text(b" digest ")
-                .number(digest)
-                .write(rt)?;
+    // Item 1: the lock of the call is drained.
+    fn drain(&mut self, lock: LockId) {
+        let d = engine::drain(self.cluster, lock);
+        let [low, high] = d.count.to_le_bytes();
+        let h = digested(self.digest, &[4, d.answer.number()]);
+        let h = digested(digest::handling(h, d.handling), &[low, high]);
+        self.digest = digest::cluster(h, d.cluster);
+        if self.seed / 16 % 2 == 1 {
+            self.cluster = d.cluster;
         }
     }
-    Ok(())
-}
 
-fn write_end(
-    rt: &impl Print,
-    word: &[u8],
-    seed: u32,
-    steps: u16,
-    accepted: u16,
-    digest: u32,
-) -> io::Result<()> {
-    heading(word, seed)
-        .text(b" steps ")
-        .number(steps as u32)
-        .text(b" accepted ")
-        .number(accepted as u32)
-        .text(b" digest ")
-        .number(digest)
-        .write(rt)
-}
-
-// A run from a cluster, with its lines, which begin with the word.
-pub fn run(
-    rt: &impl Print,
-    word: &[u8],
-    s: &mut u32,
-    p: Profile,
-    seed: u32,
-    x: Cluster,
-) -> io::Result<()> {
-    let steps = p.steps;
-    let mut r = Progress {
-        cluster: x,
-        digest: digest::cluster(seed, x),
-        accepted: 0,
-    };
-    let mut n: u16 = 0;
-    while n < steps {
-        n += 1;
-        step(&mut r, s, p, seed, n);
-        write_progress(rt, word, seed, n, steps, r.digest)?;
+    // Item 2: the call is made.
+    fn call(&mut self, call: Call) {
+        let o = perform(self.cluster, call);
+        let answer = o.answer.number();
+        let h = digested(self.digest, &[kind_number(&call), answer]);
+        self.digest = digest::handling(h, o.handling);
+        self.cluster = o.cluster;
+        if answer == 0 {
+            self.accepted = self.accepted.wrapping_add(1);
+        }
     }
-    write_end(rt, word, seed, steps, r.accepted, r.digest)
+
+    // Item 3: why the chosen client waits.
+    fn ask(&mut self, a: &Arguments) {
+        let r = engine::reason(self.cluster, a.lock, a.machine, a.task);
+        self.digest = digest::reason(self.digest, r);
+    }
+
+    // Item 4: which packet names the chosen client first, where lock, machine and task are in range.
+    fn search(&mut self, a: &Arguments) {
+        if usize::from(a.machine.0) < MACHINES && usize::from(a.task.0) < TASKS {
+            if let Some(s) = self.cluster.locks.get(usize::from(a.lock.0)) {
+                let found = first_naming(s.wire, client_of(a.machine, a.task));
+                self.digest = digest::found(self.digest, found);
+            }
+        }
+    }
+
+    // Step n: the call is chosen before the drain.
+    fn step(&mut self, n: u16) {
+        let o = self.generator.eight_outputs();
+        let c = choose(&self.profile, self.seed, &self.cluster, &o);
+        if o[0] % 64 == 0 {
+            self.drain(c.arguments.lock);
+        }
+        self.call(c.call);
+        self.ask(&c.arguments);
+        self.search(&c.arguments);
+        // item 5
+        if n % 16 == 0 {
+            self.digest = digest::cluster(self.digest, self.cluster);
+        }
+    }
+
+    // All steps, with a line after each 512, and one at the end.
+    pub fn write(&mut self, rt: &impl Print) -> io::Result<()> {
+        let steps = self.profile.steps;
+        for n in 1..=steps {
+            self.step(n);
+            if n % 512 == 0 && n < steps {
+                println!(rt;
+                    "{} {} step {} digest {}",
+                    self.word, self.seed, n, self.digest
+                )?;
+            }
+        }
+        println!(rt;
+            "{} {} steps {} accepted {} digest {}",
+            self.word, self.seed, steps, self.accepted, self.digest
+        )
+    }
 }

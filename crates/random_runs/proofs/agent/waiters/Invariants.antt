@@ -1,6 +1,0 @@
-use Rattle.std.proofs.Common.{◌-◌}
-use Rattle.model.specs.States.{queue_capacity}
-use Rattle.random_runs.proofs.agent.waiters.Given as goal
-
-abbrev pub decreases-loop-i : goal.decreases-loop-i
-decreases-loop-i l = queue_capacity - l.i
