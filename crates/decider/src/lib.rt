@@ -2,9 +2,9 @@
 // In a contract a name is the model's; `verdict_of` (rules/specs/Effects.antt) reads what a rule gives as the model's Verdict.
 #![tactic(auto)]
 
-ghost use Rattle.std.specs.Prelude.{◌≡◌, true, false, ◌==◌};
+ghost use Rattle.std.specs.Prelude.{◌≡◌, true, ◌==◌};
 ghost use Rattle.model.specs.AtDecider.{sent_on, to_owner, decides_release, grants_with, grants_first, may_share, shares, rejected_to, noting, decides_acquire};
-ghost use Rattle.model.specs.AtDecider.{decides_free, decides_grant, decides, at_decider};
+ghost use Rattle.model.specs.AtDecider.{decides_free, decides_grant, at_decider};
 ghost use Rattle.laws.specs.Shapes.{CanonicalQueue};
 ghost use Rattle.rules.specs.Effects.{verdict_of};
 

@@ -149,13 +149,13 @@ fn sent_back(p: Packet) -> Packet
     }
 }
 
-// here: an agent is on the machine; x: the agent carried, or none.
+// x: the agent carried, or none.
 #[tactic(auto, unfolding(model::specs::AtMachine::grant_arrives))]
-fn grant_arrives(v: Site, here: bool, x: AgentSlot, c: ClientId, m: Mode) -> Option<Effect>
+fn grant_arrives(v: Site, x: AgentSlot, c: ClientId, m: Mode) -> Option<Effect>
     requires { CanonicalQueue x.agent.queue }
-    ensures { verdict_of result ≡ grant_arrives here x.present v x.agent c m }
+    ensures { verdict_of result ≡ grant_arrives v.slot.present x.present v x.agent c m }
 {
-    match (x.present, here) {
+    match (x.present, v.slot.present) {
         (false, _) => doing(with_status(v, granted_in(m, v.status)), Sends::Nothing),
         (true, true) => None,
         (true, false) => install(v, c, m, x.agent),
@@ -163,18 +163,23 @@ fn grant_arrives(v: Site, here: bool, x: AgentSlot, c: ClientId, m: Mode) -> Opt
 }
 
 #[tactic(auto, unfolding(model::specs::AtMachine::rejected_grant_arrives))]
-fn rejected_grant_arrives(v: Site, here: bool, a: Agent, c: ClientId, m: Mode) -> Option<Effect>
+fn rejected_grant_arrives(v: Site, a: Agent, c: ClientId, m: Mode) -> Option<Effect>
     requires { CanonicalQueue a.queue }
-    ensures { verdict_of result ≡ rejected_grant_arrives here v a c m }
+    ensures { verdict_of result ≡ rejected_grant_arrives v.slot.present v a c m }
 {
-    if here { None } else { queue_first(v, a, c, m) }
+    if v.slot.present {
+        None
+    } else {
+        queue_first(v, a, c, m)
+    }
 }
 
 // An ACQUIRE that the decider granted: its mark is counted in the agent's incarnation.
 #[tactic(auto, unfolding(model::specs::AtMachine::marked))]
-fn marked_arrives(v: Site, a: Agent, c: ClientId) -> Option<Effect>
-    ensures { verdict_of result ≡ marked v a c }
+fn marked_arrives(v: Site, c: ClientId) -> Option<Effect>
+    ensures { verdict_of result ≡ marked v v.slot.agent c }
 {
+    let a = v.slot.agent;
     if !is_shared(a.mode) {
         return None;
     }
@@ -184,10 +189,11 @@ fn marked_arrives(v: Site, a: Agent, c: ClientId) -> Option<Effect>
 }
 
 #[tactic(auto, unfolding(model::specs::AtMachine::unmarked))]
-fn unmarked_arrives(v: Site, a: Agent, c: ClientId, m: Mode) -> Option<Effect>
-    requires { (CanonicalQueue v.slot.agent.queue) × (CanonicalQueue a.queue) }
-    ensures { verdict_of result ≡ unmarked v a c m }
+fn unmarked_arrives(v: Site, c: ClientId, m: Mode) -> Option<Effect>
+    requires { CanonicalQueue v.slot.agent.queue }
+    ensures { verdict_of result ≡ unmarked v v.slot.agent c m }
 {
+    let a = v.slot.agent;
     if may_join(v, m) {
         let x = some_agent(join(a, c));
         let p = plain_packet(Message::Grant { client: c, mode: m }, Address::Decider);
@@ -204,8 +210,8 @@ fn acquire_arrives(v: Site, p: Packet, c: ClientId, m: Mode, granted: bool) -> O
 {
     match (v.slot.present, granted) {
         (false, _) => sending(v, sent_back(p)),
-        (true, true) => marked_arrives(v, v.slot.agent, c),
-        (true, false) => unmarked_arrives(v, v.slot.agent, c, m),
+        (true, true) => marked_arrives(v, c),
+        (true, false) => unmarked_arrives(v, c, m),
     }
 }
 
@@ -217,7 +223,7 @@ fn release_arrives(v: Site, p: Packet, c: ClientId) -> Option<Effect>
     if listed(v.slot, c) {
         leave(v, v.slot.agent, c)
     } else if queues(v.slot, c) {
-        unqueue(v, v.slot.agent, c)
+        unqueue(v, c)
     } else {
         sending(v, sent_back(p))
     }
@@ -232,20 +238,21 @@ fn queues(x: AgentSlot, c: ClientId) -> bool
 }
 
 // The client is off the agent's queue.
-fn unqueue(v: Site, mut a: Agent, c: ClientId) -> Option<Effect>
-    requires { CanonicalQueue a.queue }
-    ensures { verdict_of result ≡ does (with_slot v (some_agent (unqueuing a c))) [] }
+fn unqueue(v: Site, c: ClientId) -> Option<Effect>
+    requires { CanonicalQueue v.slot.agent.queue }
+    ensures { verdict_of result ≡ does (with_slot v (some_agent (unqueuing v.slot.agent c))) [] }
 {
+    let mut a = v.slot.agent;
     a.queue = taken_off(a.queue, c);
     doing(with_slot(v, some_agent(a)), Sends::Nothing)
 }
 
 // A rejected FREE: the carried agent x is installed as carried.
 #[tactic(auto, unfolding(model::specs::AtMachine::free_arrives))]
-fn free_arrives(v: Site, here: bool, x: AgentSlot) -> Option<Effect>
-    ensures { verdict_of result ≡ free_arrives here v x }
+fn free_arrives(v: Site, x: AgentSlot) -> Option<Effect>
+    ensures { verdict_of result ≡ free_arrives v.slot.present v x }
 {
-    if here {
+    if v.slot.present {
         None
     } else {
         doing(with_slot(v, x), Sends::Nothing)
@@ -257,18 +264,17 @@ pub fn at_machine(v: Site, p: Packet) -> Option<Effect>
     requires { (CanonicalQueue v.slot.agent.queue) × (CanonicalQueue p.carried.agent.queue) }
     ensures { verdict_of result ≡ at_machine v p }
 {
-    let here = v.slot.present;
     match p.message {
-        Message::Free => free_arrives(v, here, p.carried),
+        Message::Free => free_arrives(v, p.carried),
         Message::Acquire {
             client,
             mode,
             granted,
         } => acquire_arrives(v, p, client, mode, granted),
         Message::Grant { client, mode } if p.rejected => {
-            rejected_grant_arrives(v, here, p.carried.agent, client, mode)
+            rejected_grant_arrives(v, p.carried.agent, client, mode)
         }
-        Message::Grant { client, mode } => grant_arrives(v, here, p.carried, client, mode),
+        Message::Grant { client, mode } => grant_arrives(v, p.carried, client, mode),
         Message::Release { client } => release_arrives(v, p, client),
     }
 }

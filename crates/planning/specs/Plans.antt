@@ -8,7 +8,7 @@ use Rattle.planning.specs.declared.plan.Plan.{Plan}
 use Rattle.planning.specs.Names.{MachineId, ClientId, Packet, Wire, LockState, Refusal, WireFull, Accepted, Handling, Stepped}
 use Rattle.model.specs.Lists.{removed}
 use Rattle.model.specs.States.{wire_capacity, packets}
-use Rattle.model.specs.Changes.{Verdict, apply, accepted, refused, finish, telling}
+use Rattle.model.specs.Changes.{Verdict, apply, refused, finish, telling}
 use Rattle.laws.specs.Tests.{pick_yes, pick_no}
 use Rattle.laws.specs.CallSteps.{telling_none}
 use Rattle.rules.specs.Effects.{sent_by, verdict_of}

@@ -100,9 +100,7 @@ pub(crate) fn plan_effect(
     ensures { Plans result s.now
         (telling handling (finish machine client (verdict_of effect) (left_by index s.now.wire) s.now)) }
 {
-    let Some(effect) = effect else {
-        return Err(Refusal::CannotPlace);
-    };
+    let effect = effect.ok_or(Refusal::CannotPlace)?;
     if staying(&s.wire, index) + effect.sends.count() > WIRE_CAPACITY {
         return Err(Refusal::WireFull);
     }

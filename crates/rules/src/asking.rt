@@ -36,12 +36,13 @@ pub fn queue_last(v: Site, mut a: Agent, c: ClientId, m: Mode) -> Option<Effect>
     doing(with_slot(v, some_agent(a)), Sends::Nothing)
 }
 
-// The agent a is on the client's machine.
+// An agent is on the client's machine.
 #[tactic(auto, unfolding(model::specs::Asking::client_asks))]
-fn ask_agent(v: Site, a: Agent, c: ClientId, m: Mode) -> Option<Effect>
-    requires { (CanonicalQueue v.slot.agent.queue) × (CanonicalQueue a.queue) }
-    ensures { verdict_of result ≡ client_asks v c m true a }
+fn ask_agent(v: Site, c: ClientId, m: Mode) -> Option<Effect>
+    requires { CanonicalQueue v.slot.agent.queue }
+    ensures { verdict_of result ≡ client_asks v c m true v.slot.agent }
 {
+    let a = v.slot.agent;
     if may_join(v, m) {
         let holding = with_status(v, Status::Holding(m));
         doing(with_slot(holding, some_agent(join(a, c))), Sends::Nothing)
@@ -53,7 +54,7 @@ fn ask_agent(v: Site, a: Agent, c: ClientId, m: Mode) -> Option<Effect>
 // No agent is on the client's machine.
 #[tactic(auto, unfolding(model::specs::Asking::client_asks))]
 fn ask_decider(v: Site, c: ClientId, m: Mode) -> Option<Effect>
-    ensures { (a : Agent) → verdict_of result ≡ client_asks v c m false a }
+    ensures { verdict_of result ≡ client_asks v c m false v.slot.agent }
 {
     let request = Message::Acquire {
         client: c,
@@ -72,7 +73,7 @@ pub fn acquire(v: Site, c: ClientId, m: Mode) -> Option<Effect>
     ensures { verdict_of result ≡ client_acquires v c m }
 {
     if v.slot.present {
-        ask_agent(v, v.slot.agent, c, m)
+        ask_agent(v, c, m)
     } else {
         ask_decider(v, c, m)
     }
