@@ -1,5 +1,5 @@
 // Standard output, piece by piece.
-use model::{Answer, TASKS};
+use model::{Answer, Numbered, TASKS};
 use std::fmt::Display;
 use std::io;
 

@@ -14,7 +14,7 @@ fn reason_on(s: &LockState, k: MachineId, t: TaskId) -> ReasonAnswer
     ensures { result ≡ reason_unless (first (reason_tests k t)) s.now (client_of k t) }
 {
     let c = client_in_range(k, t)?;
-    reason_in(*s, c)
+    reason_in(s, c)
 }
 
 #[tactic(auto, unfolding(model::specs::Reasons::reason, model::specs::Reasons::reason_unless, model::specs::Refusals::first))]

@@ -8,7 +8,7 @@ ghost use Rattle.model.specs.Transcripts.{replay};
 ghost use Rattle.digest.specs.Bytes.{digest_of, cluster_bytes};
 ghost use Rattle.exports.specs.Counts.{accepted_one, accepted_calls, answered};
 
-use model::{Answer, Cluster, LockId, MachineId, Reading, TaskId};
+use model::{Answer, Cluster, LockId, MachineId, Numbered, Reading, TaskId};
 
 // The digest of the cluster that the transcript leads to.
 #[unsafe(no_mangle)]
@@ -38,8 +38,8 @@ fn accepted_one(a: Answer) -> u32
     ensures { result ≡ accepted_one a }
 {
     match a {
-        Answer::Accepted => 1,
-        Answer::Refused(_) => 0,
+        Ok(()) => 1,
+        Err(_) => 0,
     }
 }
 

@@ -1,7 +1,7 @@
 // The library at work: a reader asks for lock 0, its packet reaches the decider, and the lock is drained. Prints each answer and the drain's steps.
 #![tactic(auto)]
 
-use model::{LockId, MachineId, TaskId};
+use model::{LockId, MachineId, Numbered, TaskId};
 use std::io;
 
 fn print(rt: &impl Print, n: u16) -> io::Result<()> {

@@ -2,7 +2,7 @@
 use crate::objects::{put_end, put_record};
 use engine::{fresh, perform};
 use listing::Lines;
-use model::{Answer, Cluster, Outcome, Reading, Replayed};
+use model::{Cluster, Outcome, Reading, Replayed};
 use records::reader::read_at;
 use std::io;
 use transcript::run::replay;
@@ -45,12 +45,12 @@ fn put_records(rt: &impl Print, lines: &mut Lines, start: Cluster, bytes: &[u8])
 // A cluster with a bad preference runs no record.
 fn put_all(rt: &impl Print, lines: &mut Lines, made: Outcome, bytes: &[u8]) -> io::Result<()> {
     match made.answer {
-        Answer::Accepted => {
+        Ok(()) => {
             put_records(rt, lines, made.cluster, bytes)?;
             make_room(rt, lines)?;
             put_end(lines, &replay(made.cluster, bytes));
         }
-        Answer::Refused(_) => {
+        Err(_) => {
             let none = Replayed {
                 answer: made.answer,
                 records: 0,

@@ -4,8 +4,8 @@ use engine::drain;
 use listing::Lines;
 use lock_calls::lock_of;
 use model::{
-    Answer, Call, ClientId, Cluster, Found, Handling, LOCKS, LockId, LockState, MACHINES,
-    MachineId, Outcome, Refusal, Replayed, TASKS, TaskId,
+    Answer, Call, ClientId, Cluster, Handling, LOCKS, LockId, LockState, MACHINES, MachineId,
+    Numbered, Outcome, Refusal, Replayed, TASKS, TaskId,
 };
 use parts::search::first_naming;
 use state_json::{put_field, put_list, put_optional, put_state};
@@ -57,8 +57,8 @@ fn named_on(x: &Cluster, l: LockId, m: MachineId, t: TaskId) -> Option<u8> {
     let s = x.locks.get(l.0 as usize)?;
     if m.0 < MACHINES as u8 && t.0 < TASKS as u8 {
         match first_naming(s.wire, ClientId(TASKS as u8 * m.0 + t.0)) {
-            Found::At(index) => Some(index),
-            Found::Nowhere => None,
+            Some(index) => Some(index),
+            None => None,
         }
     } else {
         None
@@ -75,7 +75,7 @@ fn put_named(lines: &mut Lines, c: Call, o: &Outcome) {
     } = c
     {
         let named = match o.answer {
-            Answer::Refused(Refusal::StillNamed) => named_on(&o.cluster, lock, machine, task),
+            Err(Refusal::StillNamed) => named_on(&o.cluster, lock, machine, task),
             _ => None,
         };
         put_optional(lines, b",\"named\":", named);
@@ -83,12 +83,12 @@ fn put_named(lines: &mut Lines, c: Call, o: &Outcome) {
 }
 
 // What a machine made of the request.
-fn put_handling(lines: &mut Lines, h: Handling) {
+fn put_handling(lines: &mut Lines, h: Option<Handling>) {
     let told: &[u8] = match h {
-        Handling::None => b"null",
-        Handling::NoAgent => b"\"no agent\"",
-        Handling::NotHolder => b"\"not a holder\"",
-        Handling::Taken => b"\"taken\"",
+        None => b"null",
+        Some(Handling::NoAgent) => b"\"no agent\"",
+        Some(Handling::NotHolder) => b"\"not a holder\"",
+        Some(Handling::Taken) => b"\"taken\"",
     };
     lines.text(b",\"handling\":");
     lines.text(told);
@@ -136,10 +136,10 @@ fn put_drain(lines: &mut Lines, x: &Cluster, l: u8) {
 // How the run ended, by its answer.
 fn put_ending(lines: &mut Lines, answer: Answer) {
     let end: &[u8] = match answer {
-        Answer::Accepted => b"{\"end\":\"end\"",
-        Answer::Refused(Refusal::TranscriptLength) => b"{\"end\":\"too long\"",
-        Answer::Refused(Refusal::PreferenceRange) => b"{\"end\":\"bad preference\"",
-        Answer::Refused(_) => b"{\"end\":\"bad record\"",
+        Ok(()) => b"{\"end\":\"end\"",
+        Err(Refusal::TranscriptLength) => b"{\"end\":\"too long\"",
+        Err(Refusal::PreferenceRange) => b"{\"end\":\"bad preference\"",
+        Err(_) => b"{\"end\":\"bad record\"",
     };
     lines.text(end);
 }

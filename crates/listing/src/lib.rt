@@ -5,7 +5,7 @@ ghost use Rattle.std.specs.Prelude.{◌≡◌, [], ◌∷◌, ◌<◌, take};
 ghost use Rattle.model.specs.Refusals.{number};
 ghost use Rattle.model.specs.Listing.{digit, digit_of, decimal, column, header, wire_column, line_of, refused_line, filled};
 
-use model::{Answer, Refusal};
+use model::{Answer, Numbered, Refusal};
 
 fn digit(n: u16) -> u8
     ensures { result ≡ digit n }
@@ -103,7 +103,7 @@ impl<'a> Lines<'a> {
         ensures { Puts (wire_column (number answer) wire) self.old self.new }
     {
         match answer {
-            Answer::Refused(Refusal::LockRange) => self.byte(b'-'),
+            Err(Refusal::LockRange) => self.byte(b'-'),
             _ => self.decimal(wire as u16),
         }
     }

@@ -35,7 +35,7 @@ fn idle_test(s: &LockState, c: ClientId) -> Answer
     requires { CanonicalWire s.now.wire }
     ensures { result ≡ first (idle_tests s.now c) }
 {
-    if !matches!(status_at(s.clients, c), Status::Idle) {
+    if !matches!(status_at(&s.clients, c), Status::Idle) {
         return Err(Refusal::NotIdle);
     }
     match first_naming(s.wire, c) {
@@ -48,7 +48,7 @@ fn idle_test(s: &LockState, c: ClientId) -> Answer
 fn holding_test(s: &LockState, c: ClientId) -> Answer
     ensures { result ≡ first (holding_tests s.now c) }
 {
-    match status_at(s.clients, c) {
+    match status_at(&s.clients, c) {
         Status::Holding(_) => Ok(()),
         _ => Err(Refusal::NotHolding),
     }
@@ -58,7 +58,7 @@ fn holding_test(s: &LockState, c: ClientId) -> Answer
 fn waiting_test(s: &LockState, c: ClientId) -> Answer
     ensures { result ≡ first (waiting_tests s.now c) }
 {
-    match status_at(s.clients, c) {
+    match status_at(&s.clients, c) {
         Status::Waiting(_) => Ok(()),
         _ => Err(Refusal::CannotGiveUp),
     }
@@ -139,7 +139,7 @@ fn lose_on(n: u8, s: &LockState, i: u8) -> Result<Plan, Refusal>
     if s.wire.len <= i {
         return Err(Refusal::IndexRange);
     }
-    if !can_be_lost(packet_at(s.wire, i)) {
+    if !can_be_lost(packet_at(&s.wire, i)) {
         return Err(Refusal::CannotLose);
     }
     plan_lose(n, s, i)

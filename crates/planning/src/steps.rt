@@ -135,7 +135,7 @@ pub fn plan_deliver(n: u8, s: &LockState, i: u8) -> Result<Plan, Refusal>
     requires { (Ready s.now) × (i < s.now.wire.len) }
     ensures { Plans result s.now (deliver_step n s.now i) }
 {
-    let p = packet_at(s.wire, i);
+    let p = packet_at(&s.wire, i);
     let v = site_about(n, s, p);
     let told = handled_at(p.to, p.message, v.slot);
     plan_packet(s, i, p, deliver(v, p), told)
@@ -147,6 +147,6 @@ pub fn plan_lose(n: u8, s: &LockState, i: u8) -> Result<Plan, Refusal>
     requires { (Ready s.now) × (i < s.now.wire.len) }
     ensures { Plans result s.now (lose_step n s.now i) }
 {
-    let p = packet_at(s.wire, i);
+    let p = packet_at(&s.wire, i);
     plan_packet(s, i, p, lose(site_about(n, s, p)), None)
 }

@@ -3,7 +3,7 @@ use crate::choice::{Arguments, choose};
 use crate::generator::Generator;
 use crate::profile::Profile;
 use lock_calls::client_of;
-use model::{Call, Cluster, LockId, MACHINES, Outcome, TASKS};
+use model::{Call, Cluster, LockId, MACHINES, Numbered, Outcome, TASKS};
 use parts::search::first_naming;
 use std::io;
 

@@ -12,9 +12,9 @@ pub fn site_of(n: u8, s: &LockState, k: MachineId, c: ClientId) -> Site
     Site {
         preference: n,
         decider: s.decider,
-        slot: agent_at(s.agents, k),
-        status: status_at(s.clients, c),
-        lost: note_at(s.clients, c),
+        slot: agent_at(&s.agents, k),
+        status: status_at(&s.clients, c),
+        lost: note_at(&s.clients, c),
     }
 }
 

@@ -8,13 +8,13 @@ use model::{Answer, Call, Cluster, Handling, LockId, MachineId, TaskId};
 #[derive(Clone, Copy, Drop)]
 struct Done {
     answer: Answer,
-    handling: Handling,
+    handling: Option<Handling>,
     steps: Option<u16>,
 }
 
 impl Done {
     fn is_accepted(self) -> bool {
-        matches!(self.answer, Answer::Accepted)
+        matches!(self.answer, Ok(()))
     }
 }
 

@@ -2,11 +2,11 @@
 use by_hand::print::Output;
 use model::Handling;
 
-pub fn told(out: &mut Output<'_, impl Print>, h: Handling) {
+pub fn told(out: &mut Output<'_, impl Print>, h: Option<Handling>) {
     match h {
-        Handling::None => out.text(b", none"),
-        Handling::NoAgent => out.text(b", no agent"),
-        Handling::NotHolder => out.text(b", not a holder"),
-        Handling::Taken => out.text(b", taken"),
+        None => out.text(b", none"),
+        Some(Handling::NoAgent) => out.text(b", no agent"),
+        Some(Handling::NotHolder) => out.text(b", not a holder"),
+        Some(Handling::Taken) => out.text(b", taken"),
     }
 }

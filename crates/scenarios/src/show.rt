@@ -3,8 +3,8 @@ use by_hand::line::{numbers_in, parted};
 use by_hand::print::Output;
 use counts::{agents_in, marks_in};
 use model::{
-    Agent, AgentSlot, CLIENTS, ClientId, ClientState, Cluster, Decider, Found, LockState,
-    MachineId, Mode, Owner, Queue, Status, Wire,
+    Agent, AgentSlot, CLIENTS, ClientId, ClientState, Cluster, Decider, LockState, MachineId, Mode,
+    Owner, Queue, Status, Wire,
 };
 use parts::search::first_naming;
 
@@ -102,8 +102,8 @@ fn named(out: &mut Output<'_, impl Print>, wire: &Wire, c: u8) {
     out.text(b"named ");
     out.client(c);
     match first_naming(*wire, ClientId(c)) {
-        Found::Nowhere => out.text(b": nowhere\n"),
-        Found::At(index) => out.print(format_args!(": index {index}\n")),
+        None => out.text(b": nowhere\n"),
+        Some(index) => out.print(format_args!(": index {index}\n")),
     }
 }
 

@@ -1,7 +1,7 @@
 // The question why a client waits, printed with its answer: `reason LOCK MACHINE/TASK`.
 use by_hand::line::first_numbers;
 use by_hand::print::Output;
-use model::{Cluster, LockId, MachineId, Reason, ReasonAnswer, TaskId};
+use model::{Cluster, LockId, MachineId, Numbered, Reason, TaskId};
 
 fn because(out: &mut Output<'_, impl Print>, r: Reason) {
     match r {
@@ -25,11 +25,11 @@ pub fn asked(out: &mut Output<'_, impl Print>, x: &Cluster, s: &[u8]) {
     out.text(b"reason ");
     out.text(s);
     match engine::reason(*x, LockId(lock), MachineId(machine), TaskId(task)) {
-        ReasonAnswer::Because(r) => {
+        Ok(r) => {
             out.text(b": 0");
             because(out, r);
         }
-        ReasonAnswer::Refused(refusal) => out.print(format_args!(": {}", refusal.number())),
+        Err(refusal) => out.print(format_args!(": {}", refusal.number())),
     }
     out.text(b"\n");
 }

@@ -136,8 +136,8 @@ fn put_client(lines: &mut Lines, c: &ClientState, a: ReasonAnswer) {
     put_bool(lines, b",\"lost\":", c.lost);
     lines.text(b",\"reason\":");
     match a {
-        ReasonAnswer::Because(r) => put_reason(lines, r),
-        ReasonAnswer::Refused(_) => lines.text(b"null"),
+        Ok(r) => put_reason(lines, r),
+        Err(_) => lines.text(b"null"),
     }
     lines.text(b"}");
 }
@@ -191,7 +191,7 @@ fn put_wire(lines: &mut Lines, w: &Wire) {
 fn put_clients(lines: &mut Lines, s: &LockState) {
     let clients = (0..CLIENTS as u8).zip(&s.clients);
     put_list(lines, clients, |lines, (i, client)| {
-        put_client(lines, client, reason_in(*s, ClientId(i)))
+        put_client(lines, client, reason_in(s, ClientId(i)))
     });
 }
 

@@ -48,7 +48,7 @@ fn kind_of(c: Call) -> u8
 fn ended(
     answer: Answer,
     records: u16,
-    handling: Handling,
+    handling: Option<Handling>,
     cluster: Cluster,
     written: usize,
 ) -> Listed
@@ -73,13 +73,13 @@ fn run_records(x: Cluster, bytes: &[u8], lines: &mut Lines) -> Listed
     let mut y = x;
     let mut at: usize = 0;
     let mut n: u16 = 0;
-    let mut h = Handling::None;
+    let mut h = None;
     loop {
         let r = read_at(bytes, at);
         match r {
             Reading::Record { call, next } => {
                 let l = lock_of(call);
-                let mut a = Answer::Refused(Refusal::LockRange);
+                let mut a = Err(Refusal::LockRange);
                 let mut w: u8 = 0;
                 if l.0 < LOCKS as u8 {
                     let i = l.0 as usize;
@@ -89,12 +89,12 @@ fn run_records(x: Cluster, bytes: &[u8], lines: &mut Lines) -> Listed
                     let next = p.handling;
                     h = h.latest(next);
                     match a {
-                        Answer::Accepted => {
+                        Ok(()) => {
                             let t = carry_out(p, s);
                             w = t.wire.len;
                             y.locks[i] = t;
                         }
-                        Answer::Refused(_) => {
+                        Err(_) => {
                             w = s.wire.len;
                         }
                     }
@@ -105,16 +105,10 @@ fn run_records(x: Cluster, bytes: &[u8], lines: &mut Lines) -> Listed
             }
             Reading::Bad => {
                 lines.refused(n + 1, Refusal::BadRecord);
-                return ended(
-                    Answer::Refused(Refusal::BadRecord),
-                    n + 1,
-                    h,
-                    y,
-                    lines.written(),
-                );
+                return ended(Err(Refusal::BadRecord), n + 1, h, y, lines.written());
             }
             Reading::End => {
-                return ended(Answer::Accepted, n, h, y, lines.written());
+                return ended(Ok(()), n, h, y, lines.written());
             }
         }
     }
@@ -132,23 +126,11 @@ pub fn list(x: Cluster, bytes: &[u8], out: &mut [u8]) -> Listed
             run_records(x, bytes, &mut lines)
         } else {
             lines.refused(0, Refusal::TranscriptLength);
-            ended(
-                Answer::Refused(Refusal::TranscriptLength),
-                0,
-                Handling::None,
-                x,
-                lines.written(),
-            )
+            ended(Err(Refusal::TranscriptLength), 0, None, x, lines.written())
         }
     } else {
         lines.refused(0, Refusal::Malformed);
-        ended(
-            Answer::Refused(Refusal::Malformed),
-            0,
-            Handling::None,
-            x,
-            lines.written(),
-        )
+        ended(Err(Refusal::Malformed), 0, None, x, lines.written())
     }
 }
 
