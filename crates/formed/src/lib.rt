@@ -1,6 +1,6 @@
-// Well-formedness: the test of refusal 11. Holders and waiters are joined by a fold with `&`: nearly always all of them pass, and a fold, which has no way
-// out, is compiled to a few wide operations, where `all` looks at one byte after the other. Two folds are joined by `&&`: with `&`, what they found would be
-// put together bit by bit.
+// Well-formedness: the test of refusal 11. Nearly always every test holds, so what is a few bytes long is joined by `&`, and the holders and the waiters of an
+// agent by a fold, which has no way out and is compiled to a few wide operations; `all` and `&&` would look at one byte after the other. Between two folds
+// stands `&&`: joined by `&`, what they found would be put together bit by bit.
 #![tactic(auto)]
 
 ghost use Rattle.std.specs.Prelude.{◌≡◌, ◌&&◌, ◌||◌, not, length, take, drop, eqb};
@@ -41,11 +41,9 @@ fn no_holder(h: &[bool; CLIENTS]) -> bool
 fn is_blank_agent(a: &Agent) -> bool
     ensures { result ≡ is_blank_agent a.now }
 {
-    matches!(a.mode, Mode::Exclusive)
-        && no_holder(&a.holders)
+    no_holder(&a.holders)
         && blank_waiters(&a.queue.slots)
-        && a.queue.len == 0
-        && a.incarnation == 0
+        && matches!(a.mode, Mode::Exclusive) & (a.queue.len == 0) & (a.incarnation == 0)
 }
 
 #[tactic(auto, unfolding(model::specs::WellFormed::is_blank_packet))]
@@ -53,10 +51,10 @@ fn is_blank_packet(p: &Packet) -> bool
     ensures { result ≡ is_blank_packet p.now }
 {
     matches!(p.message, Message::Free)
-        && matches!(p.to, Address::Decider)
-        && !p.rejected
-        && p.circled == 0
-        && !p.carried.present
+        & matches!(p.to, Address::Decider)
+        & !p.rejected
+        & (p.circled == 0)
+        & !p.carried.present
         && is_blank_agent(&p.carried.agent)
 }
 
