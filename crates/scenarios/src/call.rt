@@ -2,7 +2,7 @@
 use crate::handlings;
 use by_hand::line::{first_numbers, numbers_in, parted};
 use by_hand::print::Output;
-use model::{Answer, Call, Cluster, Handling, LockId, MachineId, TaskId};
+use model::{Answer, Call, Cluster, Drained, Handling, LockId, MachineId, Outcome, TaskId};
 
 // What a call gives beside the cluster; of a drain, its steps too.
 #[derive(Clone, Copy, Drop)]
@@ -71,22 +71,31 @@ fn drain_of(s: &[u8]) -> Option<LockId> {
 }
 
 fn performed(x: &mut Cluster, call: Call) -> Done {
-    let made = engine::perform(call, *x);
-    *x = made.cluster;
+    let Outcome {
+        answer,
+        handling,
+        cluster,
+    } = engine::perform(call, *x);
+    *x = cluster;
     Done {
-        answer: made.answer,
-        handling: made.handling,
+        answer,
+        handling,
         steps: None,
     }
 }
 
 fn drained(x: &mut Cluster, lock: LockId) -> Done {
-    let made = engine::drain(*x, lock);
-    *x = made.cluster;
+    let Drained {
+        answer,
+        count,
+        handling,
+        cluster,
+    } = engine::drain(*x, lock);
+    *x = cluster;
     Done {
-        answer: made.answer,
-        handling: made.handling,
-        steps: Some(made.count),
+        answer,
+        handling,
+        steps: Some(count),
     }
 }
 
@@ -133,8 +142,9 @@ pub fn called(out: &mut Output<'_, impl Print>, x: &mut Cluster, s: &[u8], line:
 }
 
 // The same where the cluster that the call gives is not kept.
-pub fn tried(out: &mut Output<'_, impl Print>, mut x: Cluster, s: &[u8], line: Line) {
-    called(out, &mut x, s, line);
+pub fn tried(out: &mut Output<'_, impl Print>, x: &Cluster, s: &[u8], line: Line) {
+    let mut y = *x;
+    called(out, &mut y, s, line);
 }
 
 // The text s says how often, and then a call: prints how many of these were accepted.
@@ -142,7 +152,7 @@ pub fn repeated(out: &mut Output<'_, impl Print>, x: &mut Cluster, s: &[u8]) {
     let [times] = first_numbers::<1>(s);
     let (_, call) = parted(s);
     let mut accepted: u8 = 0;
-    for i in 0..times {
+    for _i in 0..times {
         if make(x, call).is_some_and(|done| done.is_accepted()) {
             accepted += 1;
         }

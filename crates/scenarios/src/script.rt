@@ -31,6 +31,14 @@ impl Made {
         }
     }
 
+    fn fresh() -> Made {
+        Made::new(engine::fresh(0).cluster)
+    }
+
+    fn begin(&mut self) {
+        *self = Made::fresh();
+    }
+
     fn keep(&mut self) {
         let cluster = self.cluster;
         self.kept = cluster;
@@ -74,11 +82,11 @@ impl Made {
             b"say" => out.line(rest),
             b"bound" => out.text(rest),
             b"show" => show::shown(out, &self.cluster, &self.kept, rest),
-            b"try" => call::tried(out, self.cluster, rest, Line::Answered),
-            b"inside" => call::tried(out, self.cluster, rest, Line::Inside),
-            b"outside" => call::tried(out, self.cluster, rest, Line::Outside),
+            b"try" => call::tried(out, &self.cluster, rest, Line::Answered),
+            b"inside" => call::tried(out, &self.cluster, rest, Line::Inside),
+            b"outside" => call::tried(out, &self.cluster, rest, Line::Outside),
             b"reason" => why::asked(out, &self.cluster, rest),
-            b"fresh" => *self = Made::new(engine::fresh(0).cluster),
+            b"fresh" => self.begin(),
             b"keep" => self.keep(),
             b"lock" => self.lock(out, rest),
             b"agent" => agents::made(out, &mut self.slot, rest),
@@ -108,7 +116,7 @@ impl Made {
 }
 
 pub fn run(out: &mut Output<'_, impl Print>, script: &[u8]) {
-    let mut made = Made::new(engine::fresh(0).cluster);
+    let mut made = Made::fresh();
     for line in script.split(|b| *b == b'\n') {
         made.line(out, line);
     }
