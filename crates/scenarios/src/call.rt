@@ -141,7 +141,7 @@ pub fn called(out: &mut Output<'_, impl Print>, x: &mut Cluster, s: &[u8], line:
     }
 }
 
-// The same where the cluster that the call gives is not kept.
+// The same where the cluster that the call gives is not kept. The copy is made here: each caller's would take a cluster's room on the stack during a drain.
 pub fn tried(out: &mut Output<'_, impl Print>, x: &Cluster, s: &[u8], line: Line) {
     let mut y = *x;
     called(out, &mut y, s, line);

@@ -35,6 +35,7 @@ impl Made {
         Made::new(engine::fresh(0).cluster)
     }
 
+    // Apart from `command`, where it would take two clusters' room on the stack during a drain.
     fn begin(&mut self) {
         *self = Made::fresh();
     }
