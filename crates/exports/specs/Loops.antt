@@ -1,10 +1,12 @@
 -- The loops count modulo 2^32: what is counted so far and what is left to count are together the whole.
-use Rattle.std.specs.Prelude.{◌≡◌, ℕ, zero, suc, ◌+◌, ◌-◌, ◌*◌, ◌%◌, ◌^◌, ◌<◌, ◌≤◌, List, [], ◌∷◌, length}
+use Rattle.std.specs.Prelude.{◌≡◌, ℕ, zero, suc, ◌+◌, ◌-◌, ◌*◌, ◌%◌, ◌^◌, ◌<◌, ◌≤◌, ◌⊎◌, List, [], ◌∷◌, length}
+use Rattle.std.proofs.Common.{inl, inr}
 use Rattle.std.proofs.Math.Path.{refl}
 use Rattle.std.proofs.Math.Numerals.{sub-one}
 use native.Mathlib.Omega.{arith}
 use Rattle.model.specs.declared.Cluster.{Cluster}
 use Rattle.model.specs.declared.Call.{Call}
+use Rattle.model.specs.declared.Reading.{Reading}
 use Rattle.model.specs.declared.Reading.TheVariants.{Record, Bad, End}
 use Rattle.model.specs.Calls.{perform, answers_of, fresh}
 use Rattle.model.specs.Transcripts.{read_record, calls_from}
@@ -30,6 +32,11 @@ module _ {m times total left : ℕ} (i : Repeats m times total left) where
       omega (arith, rw e at i.same, i.small)
 
 -- ---- the calls of the records from position i on
+no_record : (r : Reading) → ((c : Call) (j : ℕ) → ¬ (r ≡ Record c j)) → (r ≡ Bad) ⊎ (r ≡ End)
+no_record (Record c j) h = absurd (h c j refl)
+no_record Bad h = inl refl
+no_record End h = inr refl
+
 module _ (bytes : List ℕ) (i : ℕ) where
   calls_record : (left : ℕ) (c : Call) (j : ℕ) → 0 < left → read_record bytes i ≡ Record c j → calls_from left bytes i ≡ c ∷ calls_from (left - 1) bytes j
   unfolding calls_from
@@ -45,6 +52,9 @@ module _ (bytes : List ℕ) (i : ℕ) where
   unfolding calls_from
   calls_end zero e = refl
   calls_end (suc left) e = rw (e, calls_from)
+
+  pub calls_other : (left : ℕ) → ((c : Call) (j : ℕ) → ¬ (read_record bytes i ≡ Record c j)) → calls_from left bytes i ≡ []
+  calls_other left h = elim (no_record _ h) [ inl e ↦ calls_bad left e | inr e ↦ calls_end left e ]
 
   pub calls_spent : (left : ℕ) → left ≤ 0 → calls_from left bytes i ≡ []
   unfolding calls_from

@@ -25,11 +25,9 @@ pub extern "C" fn domezatsy_replays(bytes: &[u8], times: u32) -> u32
     ensures { result ≡ (times * (replay (fresh 0).cluster bytes.now).records) % 2 ^ 32 }
 {
     let mut records: u32 = 0;
-    let mut left = times;
-    while left > 0 {
+    for _ in 0..times {
         let r = transcript::run::replay(engine::fresh(0).cluster, bytes);
-        records = std::num::wrapping_add_u32(records, r.records as u32);
-        left -= 1;
+        records = records.wrapping_add(u32::from(r.records));
     }
     records
 }
@@ -48,29 +46,17 @@ fn accepted_one(a: Answer) -> u32
 pub extern "C" fn domezatsy_calls(bytes: &[u8]) -> u32
     ensures { result ≡ accepted_calls bytes.now % 2 ^ 32 }
 {
-    let made = engine::fresh(0);
-    let mut x = made.cluster;
+    let mut x = engine::fresh(0).cluster;
     let mut accepted: u32 = 0;
     let mut at: usize = 0;
-    let mut left = bytes.len();
-    while left > 0 {
-        let r = records::reader::read_at(bytes, at);
-        match r {
-            Reading::Record { call, next } => {
-                let o = engine::perform(call, x);
-                let a = o.answer;
-                accepted = std::num::wrapping_add_u32(accepted, accepted_one(a));
-                x = o.cluster;
-                at = next;
-            }
-            Reading::Bad => {
-                return accepted;
-            }
-            Reading::End => {
-                return accepted;
-            }
-        }
-        left -= 1;
+    for _ in 0..bytes.len() {
+        let Reading::Record { call, next } = records::reader::read_at(bytes, at) else {
+            return accepted;
+        };
+        let o = engine::perform(call, x);
+        accepted = accepted.wrapping_add(accepted_one(o.answer));
+        x = o.cluster;
+        at = next;
     }
     accepted
 }
@@ -88,11 +74,9 @@ fn drains(x: Cluster, lock: u8, times: u32) -> u32
     ensures { result ≡ (times * (drain x (record { 0 = lock })).count) % 2 ^ 32 }
 {
     let mut steps: u32 = 0;
-    let mut left = times;
-    while left > 0 {
+    for _ in 0..times {
         let d = engine::drain(x, LockId(lock));
-        steps = std::num::wrapping_add_u32(steps, d.count as u32);
-        left -= 1;
+        steps = steps.wrapping_add(u32::from(d.count));
     }
     steps
 }
@@ -110,11 +94,9 @@ fn asked(x: Cluster, lock: u8, client: u8, times: u32) -> u32
     ensures { result ≡ (times * (answered x lock client + 1)) % 2 ^ 32 }
 {
     let mut total: u32 = 0;
-    let mut left = times;
-    while left > 0 {
+    for _ in 0..times {
         let a = engine::reason(x, LockId(lock), MachineId(client / 4), TaskId(client % 4));
-        total = std::num::wrapping_add_u32(total, a.number() as u32 + 1);
-        left -= 1;
+        total = total.wrapping_add(u32::from(a.number()) + 1);
     }
     total
 }
