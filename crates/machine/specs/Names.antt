@@ -1,2 +1,2 @@
 -- The model's declared types and their constructors: a facade passes on no `pub use`, so each crate has this list.
-pub use Rattle.model.specs.declared.{Mode.TheVariants.{Exclusive, Shared}, Waiter.Waiter, Queue.Queue}
+pub use Rattle.model.specs.declared.{Mode.Mode, Waiter.Waiter, Queue.Queue}

@@ -1,14 +1,13 @@
 // Deliveries at a machine. v is the site.
 #![tactic(auto)]
 
-ghost use Rattle.std.specs.Prelude.{◌≡◌, ◌||◌, []};
+ghost use Rattle.std.specs.Prelude.{◌≡◌, []};
 ghost use Rattle.model.specs.States.{waiters, some_agent};
 ghost use Rattle.model.specs.Changes.{with_slot, does};
-ghost use Rattle.model.specs.Asking.{with_room, lists};
+ghost use Rattle.model.specs.Asking.{with_room};
 ghost use Rattle.model.specs.AtMachine.{sent_back, granted_in, installs, requeued, grant_arrives, rejected_grant_arrives, marked, unmarked, acquire_arrives};
 ghost use Rattle.model.specs.AtMachine.{queues, unqueuing, release_arrives, free_arrives, at_machine, handles};
 ghost use Rattle.laws.specs.Shapes.{CanonicalQueue};
-ghost use Rattle.machine.specs.Names.{Exclusive, Shared};
 ghost use Rattle.rules.specs.Effects.{verdict_of};
 ghost use Rattle.machine.specs.Admits.{Room, leaves_next, admits_one, admission};
 
@@ -24,7 +23,7 @@ use rules::effect::{Effect, Sends, doing, sending};
 use rules::leaving::{leave, listed};
 use rules::site::{with_slot, with_status};
 
-// A shared agent is installed, and its queue's waiters are gone through: the holders with those who joined, who stays in the queue, who left it.
+// An agent is installed, and its queue's waiters are gone through: the holders with those who joined, who stays in the queue, who left it.
 #[derive(Clone, Copy, Drop)]
 struct Admission {
     pub holders: [bool; CLIENTS],
@@ -32,33 +31,33 @@ struct Admission {
     pub admitted: Queue,
 }
 
-// The next waiter may leave the queue: it is shared, and nobody ahead of it stays.
-fn may_leave(t: Admission, w: Waiter) -> bool
-    ensures { result ≡ leaves_next t w }
-{
-    t.staying.len == 0 && is_shared(w.mode)
-}
-
-// A waiter that may leave joins the holders; another stays.
-#[tactic(auto, unfolding(crate::specs::Admits::admits_one))]
-fn admit(mut t: Admission, w: Waiter) -> Admission
-    requires { Room t 1 }
-    ensures { result ≡ admits_one t w }
-{
-    if may_leave(t, w) {
-        t.holders = set_holder(t.holders, w.client, true);
-        t.admitted = push(t.admitted, w);
-    } else {
-        t.staying = push(t.staying, w);
+impl Admission {
+    // The next waiter may leave the queue of an agent with mode m: both are shared, and nobody ahead of it stays.
+    fn may_leave(&self, m: Mode, w: Waiter) -> bool
+        ensures { result ≡ leaves_next m self.now w }
+    {
+        self.staying.len == 0 && is_shared(m) && is_shared(w.mode)
     }
-    t
+
+    // A waiter that may leave joins the holders; another stays.
+    #[tactic(auto, unfolding(crate::specs::Admits::admits_one))]
+    fn admit(&mut self, m: Mode, w: Waiter)
+        requires { Room self.old 1 }
+        ensures { self.new ≡ admits_one m self.old w }
+    {
+        if self.may_leave(m, w) {
+            self.holders = set_holder(self.holders, w.client, true);
+            self.admitted = push(self.admitted, w);
+        } else {
+            self.staying = push(self.staying, w);
+        }
+    }
 }
 
 // The waiters of q, from the holders on.
-#[tactic(auto, using(crate::specs::Admits::admits_start, crate::specs::Admits::room_start), unfolding(model::specs::States::waiters))]
-fn admit_queue(holders: [bool; CLIENTS], q: Queue) -> Admission
+fn admit_queue(m: Mode, holders: [bool; CLIENTS], q: Queue) -> Admission
     requires { CanonicalQueue q }
-    ensures { result ≡ admission holders (waiters q) }
+    ensures { result ≡ admission m holders (waiters q) }
 {
     let mut t = Admission {
         holders,
@@ -66,7 +65,7 @@ fn admit_queue(holders: [bool; CLIENTS], q: Queue) -> Admission
         admitted: empty_queue(),
     };
     for w in &q.slots[..q.len as usize] {
-        t = admit(t, *w);
+        t.admit(m, *w);
     }
     t
 }
@@ -81,48 +80,25 @@ fn granted_in(m: Mode, st: Status) -> Status
     }
 }
 
+// The agent takes the mode for which it was sent.
 #[tactic(auto, using(laws::specs::Shapes::waiters_of), unfolding(model::specs::AtMachine::installs))]
-fn install_shared(v: Site, c: ClientId, a: Agent) -> Option<Effect>
+fn install(v: Site, c: ClientId, m: Mode, a: Agent) -> Option<Effect>
     requires { CanonicalQueue a.queue }
-    ensures { verdict_of result ≡ installs v c Shared a }
+    ensures { verdict_of result ≡ installs v c m a }
 {
     let Admission {
         holders,
         staying,
         admitted,
-    } = admit_queue(set_holder(a.holders, c, true), a.queue);
+    } = admit_queue(m, set_holder(a.holders, c, true), a.queue);
     let b = Agent {
-        mode: Mode::Shared,
+        mode: m,
         holders,
         queue: staying,
         ..a
     };
-    let granted = with_status(v, granted_in(Mode::Shared, v.status));
+    let granted = with_status(v, granted_in(m, v.status));
     doing(with_slot(granted, some_agent(b)), Sends::Grants(admitted))
-}
-
-#[tactic(auto, using(laws::specs::Parting::none_leaves, laws::specs::Shapes::queue_whole), unfolding(model::specs::AtMachine::installs, model::specs::AtMachine::joined))]
-fn install_exclusive(v: Site, c: ClientId, a: Agent) -> Option<Effect>
-    requires { CanonicalQueue a.queue }
-    ensures { verdict_of result ≡ installs v c Exclusive a }
-{
-    let b = Agent {
-        mode: Mode::Exclusive,
-        holders: set_holder(a.holders, c, true),
-        ..a
-    };
-    let granted = with_status(v, granted_in(Mode::Exclusive, v.status));
-    doing(with_slot(granted, some_agent(b)), Sends::Nothing)
-}
-
-fn install(v: Site, c: ClientId, m: Mode, a: Agent) -> Option<Effect>
-    requires { CanonicalQueue a.queue }
-    ensures { verdict_of result ≡ installs v c m a }
-{
-    match m {
-        Mode::Exclusive => install_exclusive(v, c, a),
-        Mode::Shared => install_shared(v, c, a),
-    }
 }
 
 // The client goes back to the front of the agent's queue.
@@ -290,15 +266,7 @@ pub fn handling(m: Message, x: AgentSlot) -> Option<Handling>
         Message::Free | Message::Grant { .. } => None,
         Message::Acquire { .. } | Message::Release { .. } if !x.present => Some(Handling::NoAgent),
         Message::Acquire { .. } => Some(Handling::Taken),
-        Message::Release { client } if has(x, client) => Some(Handling::Taken),
+        Message::Release { client } if listed(x, client) || queues(x, client) => Some(Handling::Taken),
         Message::Release { .. } => Some(Handling::NotHolder),
     }
-}
-
-// The slot's agent lists the client, or has it in its queue.
-fn has(x: AgentSlot, c: ClientId) -> bool
-    requires { CanonicalQueue x.agent.queue }
-    ensures { result ≡ (lists x c || queues x c) }
-{
-    listed(x, c) || queues(x, c)
 }

@@ -15,7 +15,7 @@ loop-w-preserved c =
     let o : drop l.w-index ws ≡ get_or ws l.w-index blank_waiter ∷ drop (l.w-index + 1) ws =
     rw add-one (drop-cons ws l.w-index blank_waiter c.loop-w-test.true) in
     let m : length ws - l.w-index ≡ 1 + (length ws - (l.w-index + 1)) = omega arith in
-    rw c.admit-t.ensures (rw o at l.invariant.0, room_next l.t _ _ (rw m at l.invariant.1))
+    rw c.admit.ensures (rw o at l.invariant.0, room_next c.args.m l.t _ _ (rw m at l.invariant.1))
 
 pub returns : goal.returns
 unfolding admits waiters
@@ -23,4 +23,4 @@ returns c =
     let l = c.loop-w in
     let ws = take c.args.q.len c.args.q.slots in
     let e : drop l.w-index ws ≡ [] = drop_of_length-le ws c.loop-w-test.false in
-    rw e at l.invariant.0 ∙ rw (c.empty_queue.ensures, c.empty_queue-2.ensures) (admits_start c.args.holders ws)
+    rw e at l.invariant.0 ∙ rw (c.empty_queue.ensures, c.empty_queue-2.ensures) (admits_start c.args.m c.args.holders ws)
