@@ -1,6 +1,6 @@
 -- Loops over the used part of an array, `take n xs`: what is left of it from j on, and a test over that.
-use Rattle.std.specs.Prelude.{◌≡◌, refl, Bool, ◌&&◌, List, [], ◌∷◌, ℕ, ◌+◌, ◌<◌, ◌≤◌, min, length, take, drop, get_or}
-use Rattle.std.proofs.Common.{sym, ◌∙◌, add-one, arith, length-take, drop_of_length-le, drop-cons, get_or-take, length-take-le}
+use Rattle.std.specs.Prelude.{◌≡◌, Bool, ◌&&◌, List, [], ◌∷◌, ℕ, ◌+◌, ◌<◌, ◌≤◌, length, take, drop, get_or}
+use Rattle.std.proofs.Common.{sym, ◌∙◌, add-one, arith, drop_of_length-le, drop-cons, get_or-take, length-take-le}
 use Rattle.std.proofs.Math.Bool.{and_assoc, and-true}
 use Rattle.model.specs.Lists.{all}
 

@@ -10,7 +10,7 @@ use model::{AgentSlot, CLIENTS, ClientId, ClientState, MACHINES, MachineId, Stat
 pub fn agent_at(a: &[AgentSlot; MACHINES], k: MachineId) -> AgentSlot
     ensures { result ≡ get_or a.now k.0 no_agent }
 {
-    a.get(usize::from(k.0)).copied().unwrap_or(no_agent())
+    a.get(usize::from(k.0)).copied().unwrap_or_else(no_agent)
 }
 
 pub fn put_agent(a: [AgentSlot; MACHINES], k: MachineId, x: AgentSlot) -> [AgentSlot; MACHINES]
