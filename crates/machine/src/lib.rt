@@ -266,7 +266,9 @@ pub fn handling(m: Message, x: AgentSlot) -> Option<Handling>
         Message::Free | Message::Grant { .. } => None,
         Message::Acquire { .. } | Message::Release { .. } if !x.present => Some(Handling::NoAgent),
         Message::Acquire { .. } => Some(Handling::Taken),
-        Message::Release { client } if listed(x, client) || queues(x, client) => Some(Handling::Taken),
+        Message::Release { client } if listed(x, client) || queues(x, client) => Some(
+            Handling::Taken,
+        ),
         Message::Release { .. } => Some(Handling::NotHolder),
     }
 }
