@@ -84,7 +84,7 @@ fn perform_on(l: LockId, c: Call, mut x: Cluster) -> Outcome
     requires { (well_formed x ≡ true) × ((l.0 < locks) × (l ≡ lock_of c)) }
     ensures { result ≡ perform c x }
 {
-    let i = usize::from(l.0);
+    let i = l.0 as usize;
     match plan_call(x.preference, c, &x.locks[i]) {
         Ok(plan) => {
             x.locks[i] = carry_out(&plan, &x.locks[i]);

@@ -27,5 +27,5 @@ pub fn reason(x: Cluster, lock: LockId, machine: MachineId, task: TaskId) -> Rea
     if LOCKS as u8 <= lock.0 {
         return Err(Refusal::LockRange);
     }
-    reason_on(&x.locks[usize::from(lock.0)], machine, task)
+    reason_on(&x.locks[lock.0 as usize], machine, task)
 }
