@@ -26,7 +26,7 @@ use Rattle.laws.specs.Clusters.{perform_formed}
 use Rattle.laws.specs.FormedStep.{release_formed, give_up_formed, deliver_formed}
 use Rattle.laws.specs.Next.{next_is, Goes, goes}
 use Rattle.planning.specs.declared.plan.Plan.{Plan}
-use Rattle.planning.specs.Plans.{Plans, carried_out}
+use Rattle.planning.specs.Plans.{Accepts, Plans, carried_out}
 use Rattle.draining.specs.declared.Turn.{Turn}
 use Rattle.draining.specs.declared.Turn.TheVariants.{Release, GiveUp}
 use Rattle.draining.specs.declared.Draining.{Draining}
@@ -54,6 +54,10 @@ drain_state n (suc left) l h s =
 -- what is left to do of a drain that came so far
 abbrev pub drain_on : LockId → Draining → Ended
 drain_on l d = drain_state d.preference d.left l d.told d.state
+
+-- the drain that came to d ends at e, with the answer
+pub record Ends (d : Draining) (a : Answer) (e : Draining) : Type 0 where
+  pub with : (l : LockId) → record { answer = a; at = e } ≡ drain_on l d
 
 -- ---- each way on, as the code takes it
 module _ (n : ℕ) (l : LockId) (h : Option Handling) (s : LockState) where
@@ -143,28 +147,31 @@ agree (suc left) u x l w h = go (next_call l (lock_in x l)) refl (λ t y v. agre
     go (some c) e ih = by_step c (goes l x c w h (next_is l (lock_in x l) c e)) e (step_of x.preference c (lock_in x l)).answer refl ih
 
 -- what the drain gives, by how that of the lock's state, read with any default, ended
-module _ (x : Cluster) (l : LockId) (d : LockState) (g : (well_formed x ≡ true) × (l.0 < locks)) {v : Ended}
-    (q : v ≡ drain_state x.preference allowance l None (get_or x.locks l.0 d)) where
-  agreed : Agree allowance None x l (drainage allowance l x) v
-  agreed = rw (q, lock_read x l d g.0 g.1) (agree allowance None x l g.0 g.1)
+abbrev start : Cluster → LockState → Draining
+start x s = record { preference = x.preference; left = allowance; told = None; state = s }
 
-  pub made : length (drainage allowance l x).calls + v.at.left ≡ allowance
-  made = agreed.count
+module _ (x : Cluster) (l : LockId) (d : LockState) (a : Answer) (e : Draining) (w : well_formed x ≡ true) (h : l.0 < locks)
+    (q : Ends (start x (get_or x.locks l.0 d)) a e) where
+  agreed : Agree allowance None x l (drainage allowance l x) (record { answer = a; at = e })
+  agreed = rw (q.with l, lock_read x l d w h) (agree allowance None x l w h)
 
-  drain_by : drain x l ≡ drain_ended v.answer x (drainage allowance l x)
+  pub made : e.left ≤ allowance
+  made = omega (arith, agreed.count)
+
+  drain_by : drain x l ≡ drain_ended a x (drainage allowance l x)
   unfolding drain drain_unless first
-  drain_by = rw (g.0, lt-leb locks l.0 g.1) (ap (λ (r : Answer). drain_ended r x (drainage allowance l x)) agreed.answer)
+  drain_by = rw (w, lt-leb locks l.0 h) (ap (λ (r : Answer). drain_ended r x (drainage allowance l x)) agreed.answer)
 
-  pub drain_ends : v.answer ≡ Accepted
-      → record { answer = Accepted; count = allowance - v.at.left; handling = v.at.told; cluster = with_lock x l v.at.state } ≡ drain x l
+  pub drain_ends : a ≡ Accepted
+      → record { answer = Accepted; count = allowance - e.left; handling = e.told; cluster = with_lock x l e.state } ≡ drain x l
   unfolding drain_ended
-  drain_ends a =
-      let n : length (drainage allowance l x).calls ≡ allowance - v.at.left = omega (arith, made) in
-      sym (drain_by ∙ rw (a, n, agreed.told, agreed.cluster))
+  drain_ends z =
+      let n : length (drainage allowance l x).calls ≡ allowance - e.left = omega (arith, agreed.count) in
+      sym (drain_by ∙ rw (z, n, agreed.told, agreed.cluster))
 
-  pub drain_stops : (r : Refusal) → v.answer ≡ Refused r → drain_refused r x ≡ drain x l
+  pub drain_stops : (r : Refusal) → a ≡ Refused r → drain_refused r x ≡ drain x l
   unfolding drain_ended
-  drain_stops r a = sym (drain_by ∙ rw a)
+  drain_stops r z = sym (drain_by ∙ rw z)
 
 -- the tests before it
 pub drain_malformed : (x : Cluster) (l : LockId) → well_formed x ≡ false → drain_refused Malformed x ≡ drain x l
@@ -270,14 +277,18 @@ module _ (l : LockId) (s : LockState) where
       go [] e = clients_next l s.clients
       go (p ∷ ps) e = absurd (omega arith)
 
--- p plans the drain's next step on t, after which the state is well formed
-pub record Planned (n : ℕ) (t : LockState) (p : Result Plan Refusal) : Type 0 where
+-- the drain's next step on t, after which the state is well formed
+pub record Due (n : ℕ) (t : LockState) : Type 0 where
   pub call : LockId → Call
   pub gives : Stepped
   pub next : (l : LockId) → next_call l t ≡ some (call l)
   pub step : (l : LockId) → step_of n (call l) t ≡ gives
-  pub plans : Plans p t gives
   pub formed : lock_formed n gives.state ≡ true
+
+-- p plans it
+pub record Planned (n : ℕ) (t : LockState) (p : Result Plan Refusal) : Type 0 where
+  pub due : Due n t
+  pub plans : Plans p t due.gives
 
 module _ (n : ℕ) (t : LockState) (f : lock_formed n t ≡ true) where
   wire_length : length (packets t.wire) ≡ t.wire.len
@@ -287,12 +298,14 @@ module _ (n : ℕ) (t : LockState) (f : lock_formed n t ≡ true) where
   delivery_planned p h q =
       let b : 0 < length (packets t.wire) = omega (arith, wire_length) in
       record {
-        call = λ l. DeliverCall l 0;
-        gives = deliver_step n t 0;
-        next = λ l. next_delivers l t b;
-        step = λ l. refl;
+        due = record {
+          call = λ l. DeliverCall l 0;
+          gives = deliver_step n t 0;
+          next = λ l. next_delivers l t b;
+          step = λ l. refl;
+          formed = deliver_formed n t 0 b f;
+        };
         plans = q;
-        formed = deliver_formed n t 0 b f;
       }
 
   module _ (e : t.wire.len ≡ 0) where
@@ -300,25 +313,23 @@ module _ (n : ℕ) (t : LockState) (f : lock_formed n t ≡ true) where
     turn_planned p u q g =
         let h : (client_of u).0 < length t.clients = rw q at (turn_inside t.clients) in
         record {
-          call = λ l. call_of l u;
-          gives = turn_step n t u;
-          next = λ l. next_turn l t (wire_length ∙ e) ∙ rw q;
-          step = λ l. step_by l n t u;
+          due = record {
+            call = λ l. call_of l u;
+            gives = turn_step n t u;
+            next = λ l. next_turn l t (wire_length ∙ e) ∙ rw q;
+            step = λ l. step_by l n t u;
+            formed = step_formed n t u (omega (arith, h, (parts t f).all_clients)) f;
+          };
           plans = g;
-          formed = step_formed n t u (omega (arith, h, (parts t f).all_clients)) f;
         }
 
-    pub nobodys_turn : turn_of t.clients ≡ None → (l : LockId) → next_call l t ≡ none
+    nobodys_turn : turn_of t.clients ≡ None → (l : LockId) → next_call l t ≡ none
     nobodys_turn q l = next_turn l t (wire_length ∙ e) ∙ rw q
 
 -- ---- along a phase
 -- d goes on from a well-formed state
 abbrev pub Formed : Draining → Type 0
 Formed d = lock_formed d.preference d.state ≡ true
-
--- the drain that came to d ends at e, with the answer
-abbrev pub Ends : Draining → Answer → Draining → Type 0
-Ends d a e = (l : LockId) → record { answer = a; at = e } ≡ drain_on l d
 
 -- the drain that came to d has come to e
 pub record Along (d e : Draining) : Type 0 where
@@ -335,11 +346,13 @@ abbrev pub Comes : Draining → Answer → Draining → Type 0
 Comes d (Ok tt) e = Ahead d e
 Comes d (Err r) e = Ends d (Refused r) e
 
-pub ends_later : {d e f : Draining} {a : Answer} → Along d e → Ends e a f → Ends d a f
-ends_later g q l = q l ∙ g.same l
+ends_later : {d e f : Draining} {a : Answer} → Along d e → Ends e a f → Ends d a f
+ends_later g q = record { with = λ l. q.with l ∙ g.same l }
 
-pub quiescent : (d : Draining) → ((l : LockId) → next_call l d.state ≡ none) → Ends d Accepted d
-quiescent d n l = state_quiescent d.preference l d.told d.state d.left (n l)
+-- with an empty wire and nobody's turn it ends well
+pub turn_over : (d e : Draining) → Along d e → e.state.wire.len ≡ 0 → turn_of e.state.clients ≡ None → Ends d Accepted e
+turn_over d e g z q =
+    ends_later g (record { with = λ l. state_quiescent e.preference l e.told e.state e.left (nobodys_turn e.preference e.state g.formed z q l) })
 
 -- along a phase: what holds at its start is lost by a step alone
 abbrev pub Since : (Draining → Type 0) → Draining → Draining → Type 0
@@ -366,30 +379,33 @@ told_latest : (h g : Option Handling) → option_or g h ≡ latest h g
 told_latest h None = refl
 told_latest h (Some g) = refl
 
+pub step_accepts : {n : ℕ} {t : LockState} {p : Result Plan Refusal} (g : Planned n t p) (q : Plan) → p ≡ Ok q → Accepts q t g.due.gives
+step_accepts g q e = rw e at g.plans
+
 -- the step answers what its plan does
-answers : {n : ℕ} {t : LockState} {p : Result Plan Refusal} (g : Planned n t p) (a : Answer) → g.gives.answer ≡ a → (l : LockId)
-    → (step_of n (g.call l) t).answer ≡ a
+answers : {n : ℕ} {t : LockState} (g : Due n t) (a : Answer) → g.gives.answer ≡ a → (l : LockId) → (step_of n (g.call l) t).answer ≡ a
 answers g a q l = rw (g.step l) q
 
-module _ {d : Draining} {p : Result Plan Refusal} (g : Planned d.preference d.state p) where
-  pub step_spent : d.left ≡ 0 → Ends d (Refused NotQuiescent) d
-  step_spent z l = state_spent d.preference l d.told d.state (g.call l) (g.next l) d.left z
+pub step_spent : (d : Draining) → Due d.preference d.state → d.left ≡ 0 → Ends d (Refused NotQuiescent) d
+step_spent d g z = record { with = λ l. state_spent d.preference l d.told d.state (g.call l) (g.next l) d.left z }
 
-  module _ (h : d.left ≡ 0 → ⊥) where
-    pub step_refused : (r : Refusal) → p ≡ Err r → Ends d (Refused r) d
-    step_refused r e l =
-        let a = answers g (Refused r) (ap (λ (t : Stepped). t.answer) (sym (rw e at g.plans))) l in
-        state_refuses d.preference l d.told d.state (g.call l) (g.next l) d.left r (omega (arith, h)) a
+module _ (d : Draining) (p : Result Plan Refusal) (g : Planned d.preference d.state p) where
+  pub step_refused : (r : Refusal) (a : Answer) → (d.left ≡ 0 → ⊥) → p ≡ Err r → a ≡ Refused r → Comes d a d
+  step_refused r a h e q =
+      let b = answers g.due (Refused r) (ap (λ (t : Stepped). t.answer) (sym (rw e at g.plans))) in
+      rw q (
+      record { with = λ l. state_refuses d.preference l d.told d.state (g.due.call l) (g.due.next l) d.left r (omega (arith, h)) (b l) }
+      )
 
-    pub step_made : (q : Plan) → p ≡ Ok q → Ahead d (stepped_by q d)
-    step_made q e =
-        let t = (rw e at g.plans).ends in
-        let a = answers g Accepted (ap (λ (t : Stepped). t.answer) (sym t)) in
-        rw (told_latest d.told q.handling, ap (λ (t : Stepped). t.state) t, ap (λ (t : Stepped). t.handling) t) (
-          record {
-            same = λ l. rw (g.step l) at (state_goes d.preference l d.told d.state (g.call l) (g.next l) d.left (omega (arith, h)) (a l));
-            formed = g.formed;
-            fewer = omega arith;
-          },
-          omega (arith, h),
-        )
+  pub step_made : (q : Plan) → (d.left ≡ 0 → ⊥) → p ≡ Ok q → Ahead d (stepped_by q d)
+  step_made q h e =
+      let t = (step_accepts g q e).ends in
+      let a = answers g.due Accepted (ap (λ (t : Stepped). t.answer) (sym t)) in
+      rw (told_latest d.told q.handling, ap (λ (t : Stepped). t.state) t, ap (λ (t : Stepped). t.handling) t) (
+        record {
+          same = λ l. rw (g.due.step l) at (state_goes d.preference l d.told d.state (g.due.call l) (g.due.next l) d.left (omega (arith, h)) (a l));
+          formed = g.due.formed;
+          fewer = omega arith;
+        },
+        omega (arith, h),
+      )

@@ -30,8 +30,10 @@ pub(crate) struct Draining {
 
 impl Draining {
     // Makes the step that is planned, where one is left. A refusal ends the drain.
+    #[tactic(auto, using(laws::specs::Formed::ready, crate::specs::DrainState::step_spent, crate::specs::DrainState::step_made, crate::specs::DrainState::step_accepts))]
     fn step(&mut self, plan: Result<Plan, Refusal>) -> Answer
-        requires { (Formed self.old) × Planned self.old.preference self.old.state plan }
+        requires formed { Formed self.old }
+        requires planned { Planned self.old.preference self.old.state plan }
         ensures { Comes self.old result self.new }
     {
         if self.left == 0 {
@@ -92,6 +94,7 @@ fn plan_turn(n: u8, s: &LockState, turn: Turn) -> Result<Plan, Refusal>
 
 // Delivers index 0 until the wire is empty: then it is the other phase's turn. Each has made a step by then, so that fewer are left at each call.
 #[cycle(deliver_phase_release_phase)]
+#[tactic(auto, using(laws::specs::Formed::ready, crate::specs::DrainState::delivery_planned))]
 fn deliver_phase(d: &mut Draining) -> Answer
     requires { (Formed d.old) × (0 < d.old.state.wire.len) }
     ensures { Ends d.old result d.new }
@@ -105,6 +108,7 @@ fn deliver_phase(d: &mut Draining) -> Answer
 
 // Takes the clients' turns until a packet is sent, or until it is nobody's turn: then the lock is quiescent.
 #[cycle(deliver_phase_release_phase)]
+#[tactic(auto, using(laws::specs::Formed::ready, crate::specs::DrainState::turn_planned, crate::specs::DrainState::turn_over))]
 fn release_phase(d: &mut Draining) -> Answer
     requires { (Formed d.old) × (d.old.state.wire.len ≡ 0) }
     ensures { Ends d.old result d.new }
@@ -143,7 +147,8 @@ fn drain_refused(r: Refusal, x: Cluster) -> Drained
 }
 
 // A well-formed cluster and a lock of it: only that lock's state is drained.
-fn drain_lock(x: Cluster, l: LockId) -> Drained
+#[tactic(auto, using(laws::specs::Formed::read_formed, crate::specs::DrainState::made, crate::specs::DrainState::drain_ends, crate::specs::DrainState::drain_stops))]
+fn drain_lock(mut x: Cluster, l: LockId) -> Drained
     requires { (well_formed x ≡ true) × (l.0 < locks) }
     ensures { result ≡ drain x l }
 {
@@ -156,13 +161,12 @@ fn drain_lock(x: Cluster, l: LockId) -> Drained
     };
     match drain_state(&mut d) {
         Ok(()) => {
-            let mut y = x;
-            y.locks[i] = d.state;
+            x.locks[i] = d.state;
             Drained {
                 answer: Ok(()),
                 count: ALLOWANCE - d.left,
                 handling: d.told,
-                cluster: y,
+                cluster: x,
             }
         }
         Err(r) => drain_refused(r, x),
@@ -174,13 +178,11 @@ fn drain_lock(x: Cluster, l: LockId) -> Drained
 pub fn drain(x: Cluster, l: LockId) -> Drained
     ensures { result ≡ drain x l }
 {
-    if well_formed(x) {
-        if l.0 < LOCKS as u8 {
-            drain_lock(x, l)
-        } else {
-            drain_refused(Refusal::LockRange, x)
-        }
-    } else {
-        drain_refused(Refusal::Malformed, x)
+    if !well_formed(x) {
+        return drain_refused(Refusal::Malformed, x);
     }
+    if LOCKS as u8 <= l.0 {
+        return drain_refused(Refusal::LockRange, x);
+    }
+    drain_lock(x, l)
 }
