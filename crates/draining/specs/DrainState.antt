@@ -3,7 +3,7 @@ use Rattle.std.specs.Prelude.{◌≡◌, refl, Bool, true, false, List, [], ◌�
 use Rattle.std.specs.Prelude.{Option, Some, None, Result, Ok, Err, IfSome}
 use Rattle.std.specs.List.{position_from}
 use Rattle.std.specs.Option.{option_or, option_map}
-use Rattle.std.proofs.Math.Path.{sym, subst}
+use Rattle.std.proofs.Math.Path.{sym}
 use Rattle.std.proofs.Math.Numerals.{add-one, sub-one}
 use Rattle.std.proofs.Common.{ap, ◌∙◌, arith, set-set, get_or-set_same}
 use Rattle.std.proofs.lemmas.Bool.{lt-leb, le-leb}
@@ -357,17 +357,6 @@ turn_over d e g z q =
 -- along a phase: what holds at its start is lost by a step alone
 abbrev pub Since : (Draining → Type 0) → Draining → Draining → Type 0
 Since P d e = (Along d e) × (e.left ≡ d.left → P e)
-
-pub since_start : (P : Draining → Type 0) {d : Draining} → Formed d → P d → Since P d d
-since_start P f p = (record { same = λ l. refl; formed = f; fewer = omega arith }, λ z. p)
-
-module _ (P : Draining → Type 0) {d e : Draining} (i : Since P d e) where
-  pub since_next : {f : Draining} → Ahead e f → Since P d f
-  since_next n =
-      (record { same = λ l. n.0.same l ∙ i.0.same l; formed = n.0.formed; fewer = omega (arith, n.1, i.0.fewer) }, λ z. absurd (omega (arith, z, n.1, i.0.fewer)))
-
-  pub since_end : (P e → ⊥) → e.left < d.left
-  since_end h = let less : e.left ≡ d.left → ⊥ = λ q. h (i.1 q) in omega (arith, less, i.0.fewer)
 
 -- ---- a step
 -- as p plans it

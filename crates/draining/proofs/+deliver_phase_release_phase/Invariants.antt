@@ -1,13 +1,6 @@
 use Rattle.std.proofs.Common.{◌≡◌, ◌<◌}
 use Rattle.draining.specs.DrainState.{Since}
-use Rattle.draining.specs.declared.Draining.{Draining}
 use Rattle.draining.proofs.+deliver_phase_release_phase.Given as goal
-
-abbrev pub Busy : Draining → Type 0
-Busy d = 0 < d.state.wire.len
-
-abbrev pub Quiet : Draining → Type 0
-Quiet d = d.state.wire.len ≡ 0
 
 -- each phase makes a step before it hands over
 abbrev pub decreases-deliver_phase : goal.decreases-deliver_phase
@@ -18,14 +11,14 @@ decreases-release_phase l = l.d.now.left
 
 -- the drain has come to d, and where it made no step there is a packet still
 abbrev pub invariant-deliver_phase-loop-d : goal.invariant-deliver_phase-loop-d
-invariant-deliver_phase-loop-d l = Since Busy l.initial.d l.d
+invariant-deliver_phase-loop-d l = Since (λ d. 0 < d.state.wire.len) l.initial.d l.d
 
 abbrev pub decreases-deliver_phase-loop-d : goal.decreases-deliver_phase-loop-d
 decreases-deliver_phase-loop-d l = l.d.left
 
 -- and here the wire is empty still
 abbrev pub invariant-release_phase-loop-d : goal.invariant-release_phase-loop-d
-invariant-release_phase-loop-d l = Since Quiet l.initial.d l.d
+invariant-release_phase-loop-d l = Since (λ d. d.state.wire.len ≡ 0) l.initial.d l.d
 
 abbrev pub decreases-release_phase-loop-d : goal.decreases-release_phase-loop-d
 decreases-release_phase-loop-d l = l.d.left
