@@ -68,7 +68,7 @@ fn first_noted(clients: &[ClientState; CLIENTS]) -> Option<usize>
     clients.iter().position(|x| x.lost)
 }
 
-// Nobody gives up while a client holds.
+// The first holder is to release. Nobody gives up while a client holds: only then is it the turn of the first with a note, and else it is nobody's.
 #[tactic(auto, using(crate::specs::DrainState::inside), unfolding(crate::specs::DrainState::turn_of))]
 fn turn_of(clients: &[ClientState; CLIENTS]) -> Option<Turn>
     ensures { result ≡ turn_of clients.now }
