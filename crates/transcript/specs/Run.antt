@@ -10,10 +10,8 @@ use Rattle.model.specs.declared.Cluster.{Cluster}
 use Rattle.model.specs.declared.Call.{Call}
 use Rattle.model.specs.declared.Refusal.{Refusal}
 use Rattle.model.specs.declared.Refusal.TheVariants.{Malformed, LockRange, BadRecord, TranscriptLength}
-use Rattle.model.specs.declared.Answer.{Answer}
-use Rattle.model.specs.declared.Answer.TheVariants.{Accepted, Refused}
 use Rattle.model.specs.declared.Handling.{Handling}
-use Rattle.model.specs.declared.Handling.TheVariants.{None}
+use Rattle.model.specs.Names.{Option, Result, Ok, Err, None, Answer, Accepted, Refused}
 use Rattle.model.specs.declared.Outcome.{Outcome}
 use Rattle.model.specs.declared.Reading.TheVariants.{Record, Bad, End}
 use Rattle.model.specs.declared.Replayed.{Replayed}
@@ -33,13 +31,13 @@ use Rattle.lock_calls.specs.LockCalls.{call_on, perform_range, perform_accepts, 
 use Rattle.listing.specs.Put.{put_then}
 
 -- ---- What a record's call c makes of the cluster y and of v, the last handling told: its answer a, v' and the cluster z, and w packets on its lock's wire.
-pub record Made (c : Call) (v : Handling) (y : Cluster) (a : Answer) (w : ℕ) (v' : Handling) (z : Cluster) : Type 0 where
+pub record Made (c : Call) (v : Option Handling) (y : Cluster) (a : Answer) (w : ℕ) (v' : Option Handling) (z : Cluster) : Type 0 where
   pub row : record { kind = kind_of c; answer = a; wire = w } ≡ row_of c y
   pub told : v' ≡ latest v (perform c y).handling
   pub cluster : z ≡ (perform c y).cluster
 
-module _ (c : Call) (v : Handling) (y : Cluster) where
-  made_by : {a : Answer} {u v' : Handling} {w : ℕ} {z : Cluster} → record { answer = a; handling = u; cluster = z } ≡ perform c y → v' ≡ latest v u
+module _ (c : Call) (v : Option Handling) (y : Cluster) where
+  made_by : {a : Answer} {u v' : Option Handling} {w : ℕ} {z : Cluster} → record { answer = a; handling = u; cluster = z } ≡ perform c y → v' ≡ latest v u
       → length (packets (lock_in z (lock_of c)).wire) ≡ w → Made c v y a w v' z
   made_by e h q = record { row = rw (← e, q); told = rw (← e) h; cluster = ap (λ (o : Outcome). o.cluster) e }
 
@@ -51,27 +49,22 @@ module _ (c : Call) (v : Handling) (y : Cluster) where
       made_by (sym (perform_range c y e k)) refl (rw (get_or-eq_default y.locks fresh_lock {n = (lock_of c).0} (omega (arith, (cells y e).all_locks))))
 
   -- the call by its plan on the state of its lock l, read with any default
-  module _ (l : LockId) (d : LockState) (f : (well_formed y ≡ true) × ((l.0 < locks) × (l ≡ lock_of c))) {p : Plan}
-      (g : Plans p (get_or y.locks l.0 d) (call_on y.preference c (get_or y.locks l.0 d))) where
+  module _ (l : LockId) (d : LockState) (f : (well_formed y ≡ true) × ((l.0 < locks) × (l ≡ lock_of c))) where
+    abbrev pub read : LockState
+    read = get_or y.locks l.0 d
+
     counted : (z : Cluster) (s : LockState) → well_formed z ≡ true → lock_in z l ≡ s → length (packets (lock_in z (lock_of c)).wire) ≡ s.wire.len
     counted z s w e = rw (← f.1.1, ← e) (length_packets (lock_in z l).wire (ready _ (lock_in z l) (lock_formed_lem z l w f.1.0)).wire)
 
-    -- the state after the step, and the cluster with it
-    abbrev pub stepped : LockState
-    stepped = carried_out p (get_or y.locks l.0 d)
+    pub made_accepted : {v' : Option Handling} {p : Plan} → Plans (Ok p) read (call_on y.preference c read) → v' ≡ latest v p.handling
+        → Made c v y Accepted (carried_out p read).wire.len v' (with_lock y l (carried_out p read))
+    made_accepted {p = p} g h =
+        let e = perform_accepts c y l d f g in
+        let w : well_formed (with_lock y l (carried_out p read)) ≡ true = rw (ap (λ (o : Outcome). o.cluster) e) (perform_formed c y f.0) in
+        made_by e h (counted _ _ w (get_or-set_same y.locks l.0 (carried_out p read) fresh_lock (omega (arith, (cells y f.0).all_locks, f.1.0))))
 
-    abbrev pub written : Cluster
-    written = with_lock y l stepped
-
-    pub made_accepted : {v' : Handling} → p.answer ≡ Accepted → v' ≡ latest v p.handling → Made c v y p.answer stepped.wire.len v' written
-    made_accepted a h =
-        let e = perform_accepts c y l d f g a refl in
-        let w : well_formed written ≡ true = rw (ap (λ (o : Outcome). o.cluster) e) (perform_formed c y f.0) in
-        made_by e h (counted written stepped w (get_or-set_same y.locks l.0 stepped fresh_lock (omega (arith, (cells y f.0).all_locks, f.1.0))))
-
-    pub made_refused : {v' : Handling} (n : Refusal) → p.answer ≡ Refused n → v' ≡ latest v p.handling
-        → Made c v y p.answer (get_or y.locks l.0 d).wire.len v' y
-    made_refused n a h = made_by (perform_refuses c y l d f g n a) h (counted y _ f.0 (sym (lock_read y l d f.0 f.1.0)))
+    pub made_refused : {n : Refusal} → Plans (Err n) read (call_on y.preference c read) → Made c v y (Refused n) read.wire.len v y
+    made_refused g = made_by (perform_refuses c y l d f g) refl (counted y _ f.0 (sym (lock_read y l d f.0 f.1.0)))
 
 -- ---- the run from the start, and its lines
 abbrev pub whole_run : List ℕ → Cluster → Replayed
@@ -82,7 +75,7 @@ all_lines bytes x = lines_from (length bytes + 1) bytes 0 0 x
 
 -- ---- At the position i with n records behind it v is the last handling told, the cluster is y and the buffer g, which began as f. The rest of the run from
 -- there is the whole run, and the rest of the lines, put into g, are all of them put into f.
-pub record Progress (bytes : List ℕ) (x : Cluster) (f : Filled) (i n : ℕ) (v : Handling) (y : Cluster) (g : Filled) : Type 0 where
+pub record Progress (bytes : List ℕ) (x : Cluster) (f : Filled) (i n : ℕ) (v : Option Handling) (y : Cluster) (g : Filled) : Type 0 where
   pub left : replay_from (suc (length bytes - n)) bytes i n v y ≡ whole_run bytes x
   pub lines : put (lines_from (suc (length bytes - n)) bytes i n y) g ≡ put (all_lines bytes x) f
   pub formed : well_formed y ≡ true
@@ -94,13 +87,13 @@ progress_start bytes x f w =
     let e : suc (length bytes - 0) ≡ length bytes + 1 = omega arith in
     record { left = rw e; lines = rw e; formed = w; behind = omega arith; inside = omega arith }
 
-module _ {bytes : List ℕ} {x : Cluster} {f : Filled} {i n : ℕ} {v : Handling} {y : Cluster} {g : Filled} (p : Progress bytes x f i n v y g)
+module _ {bytes : List ℕ} {x : Cluster} {f : Filled} {i n : ℕ} {v : Option Handling} {y : Cluster} {g : Filled} (p : Progress bytes x f i n v y g)
   where
     -- the state that a call is planned on, read from the cluster with any default
     pub progress_lock : (l : LockId) (d : LockState) → l.0 < locks → lock_formed y.preference (get_or y.locks l.0 d) ≡ true
     progress_lock l d h = read_formed y l d p.formed h
 
-    pub progress_on : (c : Call) (j : ℕ) (a : Answer) (w : ℕ) {v' : Handling} {z : Cluster} {h : Filled} → read_record bytes i ≡ Record c j
+    pub progress_on : (c : Call) (j : ℕ) (a : Answer) (w : ℕ) {v' : Option Handling} {z : Cluster} {h : Filled} → read_record bytes i ≡ Record c j
         → Made c v y a w v' z → h ≡ put (line_of (n + 1) (record { kind = kind_of c; answer = a; wire = w })) g → Progress bytes x f j (n + 1) v' z h
     progress_on c j a w {z = z} {h = h} e m q =
         let b = record_ends bytes i c j e in

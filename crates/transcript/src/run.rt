@@ -1,11 +1,12 @@
 // The run of a transcript, with its listing. The cluster stays in one local: each record's call is planned on its lock's state, which is written in
 // its place where the plan accepts; then the record's line is put into the caller's buffer, as far as that goes.
-ghost use Rattle.std.specs.Prelude.{◌≡◌, true, ◌+◌, ◌≤◌, length};
-ghost use Rattle.model.specs.declared.Handling.TheVariants.{None};
+ghost use Rattle.std.specs.Prelude.{◌≡◌, true, ◌+◌, ◌≤◌, length, None};
+ghost use Rattle.model.specs.Names.{Refused};
 ghost use Rattle.model.specs.WellFormed.{well_formed};
 ghost use Rattle.model.specs.Transcripts.{replayed, replay_from, replay};
-ghost use Rattle.model.specs.Listing.{kind_of, lines_from, listing, filled, put};
-ghost use Rattle.listing.specs.Lines.{lines_in, Puts};
+ghost use Rattle.model.specs.Listing.{lines_from, refused_line, listing, filled, put};
+ghost use Rattle.listing.specs.Lines.{Puts};
+ghost use Rattle.transcript.specs.Run.{Made};
 
 use formed::well_formed;
 use listing::Lines;
@@ -20,117 +21,108 @@ pub struct Listed {
     pub written: usize,
 }
 
-fn kind_of(c: Call) -> u8
-    ensures { result ≡ kind_of c }
+// Makes a record's call, and writes what it tells: its answer, and how many packets are then on its lock's wire. A lock out of range has no state to step
+// on, and no wire.
+fn make(call: Call, told: &mut Option<Handling>, y: &mut Cluster) -> (Answer, u8)
+    requires { well_formed y.old ≡ true }
+    ensures { Made call told.old y.old result.0 result.1 told.new y.new }
 {
-    match c {
-        Call::Acquire {
-            lock: _,
-            machine: _,
-            task: _,
-            mode: _,
-        } => 1,
-        Call::Release {
-            lock: _,
-            machine: _,
-            task: _,
-        } => 2,
-        Call::Deliver { lock: _, index: _ } => 3,
-        Call::Lose { lock: _, index: _ } => 6,
-        Call::GiveUp {
-            lock: _,
-            machine: _,
-            task: _,
-        } => 7,
+    let l = lock_of(call);
+    if LOCKS as u8 <= l.0 {
+        return (Err(Refusal::LockRange), 0);
+    }
+    let i = l.0 as usize;
+    let s = y.locks[i];
+    match plan_call(y.preference, call, &s) {
+        Ok(plan) => {
+            let t = carry_out(&plan, &s);
+            y.locks[i] = t;
+            *told = plan.handling.or(*told);
+            (Ok(()), t.wire.len)
+        }
+        Err(refusal) => (Err(refusal), s.wire.len),
     }
 }
 
-fn ended(
-    answer: Answer,
-    records: u16,
-    handling: Option<Handling>,
-    cluster: Cluster,
-    written: usize,
-) -> Listed
-    ensures { (result.outcome ≡ replayed answer records handling cluster) × (result.written ≡ written) }
-{
-    let outcome = Replayed {
-        answer,
-        records,
-        handling,
-        cluster,
-    };
-    Listed { outcome, written }
-}
-
-// Each record's call is made, whatever it answers; a lock out of range has no state to step on, and no wire.
-fn run_records(x: Cluster, bytes: &[u8], lines: &mut Lines) -> Listed
+// Each record's call is made, whatever it answers.
+fn run_records(x: Cluster, bytes: &[u8], lines: &mut Lines) -> Replayed
     requires { (well_formed x ≡ true) × (length bytes.now ≤ 65535) }
-    ensures outcome { result.outcome ≡ replay_from (length bytes.now + 1) bytes.now 0 0 None x }
+    ensures outcome { result ≡ replay_from (length bytes.now + 1) bytes.now 0 0 None x }
     ensures lines { Puts (lines_from (length bytes.now + 1) bytes.now 0 0 x) lines.old lines.new }
-    ensures written { result.written ≡ (lines_in lines.new).at }
 {
-    let mut y = x;
+    let mut cluster = x;
     let mut at: usize = 0;
-    let mut n: u16 = 0;
-    let mut h = None;
+    let mut records: u16 = 0;
+    let mut handling = None;
     loop {
-        let r = read_at(bytes, at);
-        match r {
+        match read_at(bytes, at) {
             Reading::Record { call, next } => {
-                let l = lock_of(call);
-                let mut a = Err(Refusal::LockRange);
-                let mut w: u8 = 0;
-                if l.0 < LOCKS as u8 {
-                    let i = l.0 as usize;
-                    let s = y.locks[i];
-                    let p = plan_call(y.preference, call, s);
-                    a = p.answer;
-                    let next = p.handling;
-                    h = h.latest(next);
-                    match a {
-                        Ok(()) => {
-                            let t = carry_out(p, s);
-                            w = t.wire.len;
-                            y.locks[i] = t;
-                        }
-                        Err(_) => {
-                            w = s.wire.len;
-                        }
-                    }
-                }
-                n += 1;
-                lines.line(n, kind_of(call), a, w);
+                let (answer, wire) = make(call, &mut handling, &mut cluster);
+                records += 1;
+                lines.line(records, call.kind(), answer, wire);
                 at = next;
             }
             Reading::Bad => {
-                lines.refused(n + 1, Refusal::BadRecord);
-                return ended(Err(Refusal::BadRecord), n + 1, h, y, lines.written());
+                lines.refused(records + 1, Refusal::BadRecord);
+                return Replayed {
+                    answer: Err(Refusal::BadRecord),
+                    records: records + 1,
+                    handling,
+                    cluster,
+                };
             }
             Reading::End => {
-                return ended(Ok(()), n, h, y, lines.written());
+                return Replayed {
+                    answer: Ok(()),
+                    records,
+                    handling,
+                    cluster,
+                };
             }
         }
     }
 }
 
-// The run and its listing, which is put into the buffer from its start on. Tests 11, then 13, before any record is run.
+// A run that has not begun.
+fn refuse_run(refusal: Refusal, cluster: Cluster, lines: &mut Lines) -> Replayed
+    ensures outcome { result ≡ replayed (Refused refusal) 0 None cluster }
+    ensures lines { Puts (refused_line 0 refusal) lines.old lines.new }
+{
+    lines.refused(0, refusal);
+    Replayed {
+        answer: Err(refusal),
+        records: 0,
+        handling: None,
+        cluster,
+    }
+}
+
+// Tests 11, then 13, before any record is run.
+fn run(x: Cluster, bytes: &[u8], lines: &mut Lines) -> Replayed
+    ensures outcome { result ≡ replay x bytes.now }
+    ensures lines { Puts (listing x bytes.now) lines.old lines.new }
+{
+    lines.header();
+    if !well_formed(x) {
+        return refuse_run(Refusal::Malformed, x, lines);
+    }
+    if bytes.len() <= 65535 {
+        run_records(x, bytes, lines)
+    } else {
+        refuse_run(Refusal::TranscriptLength, x, lines)
+    }
+}
+
+// The run and its listing, which is put into the buffer from its start on.
 pub fn list(x: Cluster, bytes: &[u8], out: &mut [u8]) -> Listed
     ensures { (result.outcome ≡ replay x bytes.now)
         × (filled out.new result.written ≡ put (listing x bytes.now) (filled out.old 0)) }
 {
     let mut lines = Lines::new(out);
-    lines.header();
-    if well_formed(x) {
-        if bytes.len() <= 65535 {
-            run_records(x, bytes, &mut lines)
-        } else {
-            lines.refused(0, Refusal::TranscriptLength);
-            ended(Err(Refusal::TranscriptLength), 0, None, x, lines.written())
-        }
-    } else {
-        lines.refused(0, Refusal::Malformed);
-        ended(Err(Refusal::Malformed), 0, None, x, lines.written())
+    let outcome = run(x, bytes, &mut lines);
+    Listed {
+        outcome,
+        written: lines.written(),
     }
 }
 
@@ -139,6 +131,5 @@ pub fn replay(x: Cluster, bytes: &[u8]) -> Replayed
     ensures { result ≡ replay x bytes.now }
 {
     let mut none = [0u8; 1];
-    let r = list(x, bytes, &mut none[..0]);
-    r.outcome
+    list(x, bytes, &mut none[..0]).outcome
 }

@@ -6,7 +6,7 @@ use Rattle.transcript.proofs.run.run_records.Given as goal
 -- the rest of the run is the whole run, and the rest of the lines, put behind those that are there, are all lines
 abbrev pub invariant-loop-call : goal.invariant-loop-call
 invariant-loop-call l = record {
-  progress : Progress l.bytes l.initial.y (lines_in l.initial.lines) l.at l.n l.h l.y (lines_in l.lines);
+  progress : Progress l.bytes l.initial.cluster (lines_in l.initial.lines) l.at l.records l.handling l.cluster (lines_in l.lines);
   same_buffer : l.lines.out.ghost_name ≡ l.initial.lines.out.ghost_name;
 }
 
