@@ -1,14 +1,13 @@
 -- How many calls of a transcript are accepted, and the number that a question for a reason is answered.
 use Rattle.std.specs.Prelude.{ℕ, ◌+◌, ◌/◌, ◌%◌, List, [], ◌∷◌}
 use Rattle.model.specs.declared.Cluster.{Cluster}
-use Rattle.model.specs.declared.Answer.{Answer}
-use Rattle.model.specs.declared.Answer.TheVariants.{Accepted, Refused}
+use Rattle.model.specs.Names.{Answer, Ok, Refused}
 use Rattle.model.specs.Calls.{answers_of, fresh}
 use Rattle.model.specs.Transcripts.{calls_of}
 use Rattle.model.specs.Reasons.{reason, reason_number}
 
 abbrev pub accepted_one : Answer → ℕ
-accepted_one Accepted = 1
+accepted_one (Ok tt) = 1
 accepted_one (Refused r) = 0
 
 unfoldable pub count_accepted : List Answer → ℕ

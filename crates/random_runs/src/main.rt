@@ -11,6 +11,7 @@ mod profile;
 mod run;
 
 use generator::Generator;
+use model::Numbered;
 use run::Run;
 use std::io;
 

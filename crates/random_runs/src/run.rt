@@ -48,17 +48,6 @@ fn perform(x: Cluster, call: Call) -> Outcome {
     }
 }
 
-// The page's number of the call.
-fn kind_number(call: &Call) -> u8 {
-    match call {
-        Call::Acquire { .. } => 1,
-        Call::Release { .. } => 2,
-        Call::Deliver { .. } => 3,
-        Call::Lose { .. } => 6,
-        Call::GiveUp { .. } => 7,
-    }
-}
-
 impl Run {
     pub fn new(
         word: &'static str,
@@ -94,7 +83,7 @@ impl Run {
     fn call(&mut self, call: Call) {
         let o = perform(self.cluster, call);
         let answer = o.answer.number();
-        let h = digested(self.digest, &[kind_number(&call), answer]);
+        let h = digested(self.digest, &[call.kind(), answer]);
         self.digest = digest::handling(h, o.handling);
         self.cluster = o.cluster;
         if answer == 0 {

@@ -3,24 +3,17 @@ use by_hand::line::{numbers_in, parted};
 use by_hand::print::Output;
 use counts::{agents_in, marks_in};
 use model::{
-    Agent, AgentSlot, CLIENTS, ClientId, ClientState, Cluster, Decider, LockState, MachineId, Mode,
+    Agent, AgentSlot, CLIENTS, ClientId, ClientState, Cluster, Decider, LockState, MachineId,
     Owner, Queue, Status, Wire,
 };
 use parts::search::first_naming;
 
 // Document 01's number.
-fn number(mode: Mode) -> u8 {
-    match mode {
-        Mode::Exclusive => 2,
-        Mode::Shared => 3,
-    }
-}
-
 fn owner(out: &mut Output<'_, impl Print>, owner: Owner) {
     match owner {
         Owner::Free => out.text(b"free"),
         Owner::Owned(mode, MachineId(k)) => {
-            out.print(format_args!("mode {}, machine {k}", number(mode)));
+            out.print(format_args!("mode {}, machine {k}", mode.number()));
         }
     }
 }
@@ -42,8 +35,8 @@ fn client(out: &mut Output<'_, impl Print>, clients: &[ClientState; CLIENTS], c:
     out.client(c);
     match client.status {
         Status::Idle => out.text(b" idle"),
-        Status::Waiting(mode) => out.print(format_args!(" waits {}", number(mode))),
-        Status::Holding(mode) => out.print(format_args!(" holds {}", number(mode))),
+        Status::Waiting(mode) => out.print(format_args!(" waits {}", mode.number())),
+        Status::Holding(mode) => out.print(format_args!(" holds {}", mode.number())),
     }
     if client.lost {
         out.text(b", its GRANT was lost");
@@ -64,12 +57,12 @@ fn waiters(out: &mut Output<'_, impl Print>, queue: &Queue) {
     for waiter in queue.slots.iter().take(queue.len as usize) {
         out.text(b" ");
         out.client(waiter.client.0);
-        out.print(format_args!(":{}", number(waiter.mode)));
+        out.print(format_args!(":{}", waiter.mode.number()));
     }
 }
 
 fn agent(out: &mut Output<'_, impl Print>, agent: &Agent) {
-    let (mode, incarnation) = (number(agent.mode), agent.incarnation);
+    let (mode, incarnation) = (agent.mode.number(), agent.incarnation);
     out.print(format_args!(": mode {mode}, incarnation {incarnation}"));
     out.text(b", holders");
     holders(out, &agent.holders);

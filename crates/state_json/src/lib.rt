@@ -5,8 +5,8 @@ ghost use Rattle.std.specs.Iterator.{IsFinite};
 
 use listing::Lines;
 use model::{
-    Address, Agent, AgentSlot, CLIENTS, ClientId, ClientState, Decider, LockState, Message, Mode,
-    Owner, Packet, Queue, Reason, ReasonAnswer, Status, Waiter, Wire,
+    Address, Agent, AgentSlot, CLIENTS, ClientId, ClientState, Decider, LockState, Message, Owner,
+    Packet, Queue, Reason, ReasonAnswer, Status, Waiter, Wire,
 };
 use reasons::reason_in;
 
@@ -45,13 +45,6 @@ pub fn put_list<I: Iterator + Drop, F: FnMut(&mut Lines, I::Item)>(
     lines.text(b"]");
 }
 
-fn mode_number(m: Mode) -> u8 {
-    match m {
-        Mode::Exclusive => 2,
-        Mode::Shared => 3,
-    }
-}
-
 fn put_bool(lines: &mut Lines, name: &[u8], b: bool) {
     lines.text(name);
     if b {
@@ -64,7 +57,7 @@ fn put_bool(lines: &mut Lines, name: &[u8], b: bool) {
 fn put_decider(lines: &mut Lines, d: &Decider) {
     let (mode, machine) = match d.owner {
         Owner::Free => (0, None),
-        Owner::Owned(m, machine) => (mode_number(m), Some(machine.0)),
+        Owner::Owned(m, machine) => (m.number(), Some(machine.0)),
     };
     put_field(lines, b"{\"mode\":", mode as u16);
     put_optional(lines, b",\"machine\":", machine);
@@ -75,7 +68,7 @@ fn put_decider(lines: &mut Lines, d: &Decider) {
 
 fn put_waiter(lines: &mut Lines, w: &Waiter) {
     put_field(lines, b"{\"client\":", w.client.0 as u16);
-    put_field(lines, b",\"mode\":", mode_number(w.mode) as u16);
+    put_field(lines, b",\"mode\":", w.mode.number() as u16);
     lines.text(b"}");
 }
 
@@ -97,7 +90,7 @@ fn put_slot(lines: &mut Lines, s: &AgentSlot) {
 }
 
 fn put_agent(lines: &mut Lines, a: &Agent) {
-    put_field(lines, b"{\"mode\":", mode_number(a.mode) as u16);
+    put_field(lines, b"{\"mode\":", a.mode.number() as u16);
     lines.text(b",\"holders\":");
     put_holders(lines, &a.holders);
     lines.text(b",\"queue\":");
@@ -127,8 +120,8 @@ fn put_reason(lines: &mut Lines, r: Reason) {
 fn put_client(lines: &mut Lines, c: &ClientState, a: ReasonAnswer) {
     let (status, mode): (&[u8], _) = match c.status {
         Status::Idle => (b"idle", None),
-        Status::Waiting(m) => (b"waiting", Some(mode_number(m))),
-        Status::Holding(m) => (b"holding", Some(mode_number(m))),
+        Status::Waiting(m) => (b"waiting", Some(m.number())),
+        Status::Holding(m) => (b"holding", Some(m.number())),
     };
     lines.text(b"{\"status\":\"");
     lines.text(status);
@@ -159,8 +152,8 @@ fn put_about(lines: &mut Lines, m: Message) {
             client,
             mode,
             granted,
-        } => (Some(client.0), Some(mode_number(mode)), granted),
-        Message::Grant { client, mode } => (Some(client.0), Some(mode_number(mode)), false),
+        } => (Some(client.0), Some(mode.number()), granted),
+        Message::Grant { client, mode } => (Some(client.0), Some(mode.number()), false),
         Message::Release { client } => (Some(client.0), None, false),
     };
     put_optional(lines, b",\"client\":", client);
