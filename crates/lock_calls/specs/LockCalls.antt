@@ -11,7 +11,8 @@ use Rattle.model.specs.States.{locks, machines, tasks, client_of, mode_of, fresh
 use Rattle.model.specs.WellFormed.{well_formed}
 use Rattle.model.specs.Changes.{refused}
 use Rattle.model.specs.Refusals.{Cause, ◌when◌, first}
-use Rattle.model.specs.Calls.{idle_tests, acquire_step, release_step, deliver_step, acquire_tests, release_tests, deliver_tests, causes, refusing, with_lock, settled}
+use Rattle.model.specs.Calls.{idle_tests, acquire_step, release_step, deliver_step, acquire_tests, release_tests, deliver_tests, causes, refusing}
+use Rattle.model.specs.Calls.{with_lock, settled}
 use Rattle.model.specs.Calls.{unless, acquire, release, deliver, lose, give_up, perform, lock_of, lose_step, give_up_step, lose_tests, give_up_tests}
 use Rattle.laws.specs.Formed.{lock_read}
 use Rattle.laws.specs.CallSteps.{step_of, step_in, step_refused}

@@ -280,14 +280,15 @@ pub data Handled (s t : LockState) (i : ℕ) (k : MachineId) : Message → Optio
       → Handled s t i k (Release c) (Some NotHolder)
   acquire_taken : {c : ClientId} {m : Mode} {g : Bool} → (agent_on s k).present ≡ true → Stayed s t i → Handled s t i k (Acquire c m g) (Some Taken)
   release_taken : {c : ClientId} → lists (agent_on s k) c ≡ true → Stayed s t i → Handled s t i k (Release c) (Some Taken)
-  release_unqueued : {c : ClientId} → lists (agent_on s k) c ≡ false → queues (agent_on s k) c ≡ true → Unqueued s t i k c → Handled s t i k (Release c) (Some Taken)
+  release_unqueued : {c : ClientId} → lists (agent_on s k) c ≡ false → queues (agent_on s k) c ≡ true → Unqueued s t i k c
+      → Handled s t i k (Release c) (Some Taken)
   no_request : {m : Message} → is_request m ≡ false → Handled s t i k m None
 
 -- The last of a list of handlings that is one, or none.
 pub data Last : List (Option Handling) → Option Handling → Type 0 where
   none_told : {hs : List (Option Handling)} → all is_none hs ≡ true → Last hs None
-  told_last : {hs : List (Option Handling)} (before : List (Option Handling)) {h : Option Handling} (behind : List (Option Handling)) → hs ≡ before ++ h ∷ behind → is_none h ≡ false
-      → all is_none behind ≡ true → Last hs h
+  told_last : {hs : List (Option Handling)} (before : List (Option Handling)) {h : Option Handling} (behind : List (Option Handling))
+      → hs ≡ before ++ h ∷ behind → is_none h ≡ false → all is_none behind ≡ true → Last hs h
 
 -- On any cluster, made by hand or not: what is told by a delivery to a machine, if it is accepted; and nothing by any other call, or a refused one. A drain
 -- tells the last handling of its calls, and nothing where it is refused; a transcript the last of its records', and nothing where the two tests refuse it.

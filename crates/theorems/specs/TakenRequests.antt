@@ -117,7 +117,8 @@ is_release (Grant c m) = false
 is_release (Release c) = true
 is_release Free = false
 
-released_by : {s t : LockState} {i : ℕ} {k : MachineId} {m : Message} {h : Option Handling} (c : ClientId) → Handled s t i k m h → m ≡ Release c → h ≡ Some Taken
+released_by : {s t : LockState} {i : ℕ} {k : MachineId} {m : Message} {h : Option Handling} (c : ClientId) → Handled s t i k m h → m ≡ Release c
+    → h ≡ Some Taken
     → (lists (agent_on s k) c ≡ true) ⊎ ((lists (agent_on s k) c ≡ false) × ((queues (agent_on s k) c ≡ true) × Unqueued s t i k c))
 released_by c (told_no_agent r e w) z q = absurd (false≢true (ap is_taken q))
 released_by c (not_holder e l u w) z q = absurd (false≢true (ap is_taken q))
@@ -127,7 +128,8 @@ released_by c (release_unqueued {c = d} l u un) z q = let same : d ≡ c = ap (r
 released_by c (no_request r) z q = absurd (false≢true (ap is_taken q))
 
 -- ---- of a delivery
-module _ (x : Cluster) (l : LockId) (i : ℕ) (k : MachineId) (t : (packet_at (lock_in x l) i).to ≡ ToMachine k) (told : (deliver x l i).handling ≡ (Some Taken)) where
+module _ (x : Cluster) (l : LockId) (i : ℕ) (k : MachineId) (t : (packet_at (lock_in x l) i).to ≡ ToMachine k)
+    (told : (deliver x l i).handling ≡ Some Taken) where
   abbrev s : LockState
   s = lock_in x l
 

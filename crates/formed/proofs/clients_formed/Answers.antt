@@ -7,4 +7,5 @@ use Rattle.formed.proofs.clients_formed.Goals as goal
 
 pub returns : goal.returns
 returns c =
-    rw (eq-eqb (length c.args.a.now) clients c.told-a, ← c.iter.ensures.rest) (all_all client_formed c.iter.result c.all.ensures.ran (λ x b f k. search (rules, tests)))
+    rw (eq-eqb (length c.args.a.now) clients c.told-a, ← c.iter.ensures.rest)
+    (all_all client_formed c.iter.result c.all.ensures.ran (λ x b f k. search (rules, tests)))

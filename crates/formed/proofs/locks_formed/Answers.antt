@@ -7,4 +7,5 @@ use Rattle.formed.proofs.locks_formed.Goals as goal
 
 pub returns : goal.returns
 returns c =
-    rw (eq-eqb (length c.args.a.now) locks c.told-a, ← c.iter.ensures.rest) (all_all (lock_formed c.args.n) c.iter.result c.all.ensures.ran (λ x b f k. search (rules, tests)))
+    rw (eq-eqb (length c.args.a.now) locks c.told-a, ← c.iter.ensures.rest)
+    (all_all (lock_formed c.args.n) c.iter.result c.all.ensures.ran (λ x b f k. search (rules, tests)))

@@ -12,7 +12,8 @@ returns-then-i-ge-CLIENTS c =
     let i = c.loop-w.invariant.0 in
     elim c.then-i-ge-CLIENTS.branch [
       | then-i-ge-CLIENTS-via-then-i-ge-CLIENTS w ↦ pass_far c.args.a.now _ blank_waiter _ i (search rules) w.if-i-ge-CLIENTS.true
-      | then-i-ge-CLIENTS-via-else-i-ge-CLIENTS+then-seen-i w ↦ pass_twice c.args.a.now _ blank_waiter _ i (search rules) w.if-i-ge-CLIENTS.false w.if-seen-i.true
+      | then-i-ge-CLIENTS-via-else-i-ge-CLIENTS+then-seen-i w ↦
+          pass_twice c.args.a.now _ blank_waiter _ i (search rules) w.if-i-ge-CLIENTS.false w.if-seen-i.true
     ]
 
 pub loop-w-preserved : goal.loop-w-preserved
