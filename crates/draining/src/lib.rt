@@ -10,7 +10,7 @@ ghost use Rattle.laws.specs.Formed.{Ready};
 ghost use Rattle.planning.specs.Plans.{Plans};
 ghost use Rattle.draining.specs.DrainState.{Formed, Planned, Comes, Ends, holds, noted, turn_of, turn_step};
 
-use formed::well_formed;
+use formed::is_well_formed;
 use model::{
     ALLOWANCE, Answer, CLIENTS, ClientId, ClientState, Cluster, Drained, Handling, LOCKS, LockId,
     LockState, Refusal,
@@ -178,7 +178,7 @@ fn drain_lock(mut x: Cluster, l: LockId) -> Drained
 pub fn drain(x: Cluster, l: LockId) -> Drained
     ensures { result ≡ drain x l }
 {
-    if !well_formed(x) {
+    if !is_well_formed(&x) {
         return drain_refused(Refusal::Malformed, x);
     }
     if LOCKS as u8 <= l.0 {

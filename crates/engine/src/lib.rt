@@ -7,6 +7,7 @@ ghost use Rattle.model.specs.States.{locks};
 ghost use Rattle.model.specs.WellFormed.{well_formed};
 ghost use Rattle.model.specs.Calls.{acquire, release, deliver, lose, give_up, perform, lock_of};
 
+use formed::is_well_formed;
 use lock_calls::{lock_of, plan_call};
 use making::refuse_call;
 use model::{Call, Cluster, LOCKS, LockId, MachineId, Outcome, Refusal, TaskId};
@@ -102,7 +103,7 @@ fn perform_on(l: LockId, c: Call, mut x: Cluster) -> Outcome
 pub fn perform(c: Call, x: Cluster) -> Outcome
     ensures { result ≡ perform c x }
 {
-    if !well_formed(x) {
+    if !is_well_formed(&x) {
         return refuse_call(Refusal::Malformed, x);
     }
     let l = lock_of(c);

@@ -4,7 +4,7 @@ ghost use Rattle.model.specs.States.{client_of};
 ghost use Rattle.model.specs.Refusals.{first};
 ghost use Rattle.model.specs.Reasons.{reason_tests, reason_unless, reason};
 
-use formed::well_formed;
+use formed::is_well_formed;
 use lock_calls::client_in_range;
 use model::{Cluster, LOCKS, LockId, LockState, MachineId, ReasonAnswer, Refusal, TaskId};
 use reasons::reason_in;
@@ -21,7 +21,7 @@ fn reason_on(s: &LockState, k: MachineId, t: TaskId) -> ReasonAnswer
 pub fn reason(x: Cluster, lock: LockId, machine: MachineId, task: TaskId) -> ReasonAnswer
     ensures { result ≡ reason x lock machine task }
 {
-    if !well_formed(x) {
+    if !is_well_formed(&x) {
         return Err(Refusal::Malformed);
     }
     if LOCKS as u8 <= lock.0 {

@@ -228,8 +228,15 @@ fn locks_formed(n: u8, a: &[LockState; LOCKS]) -> bool
 }
 
 #[tactic(auto, unfolding(model::specs::WellFormed::well_formed))]
+pub fn is_well_formed(x: &Cluster) -> bool
+    ensures { result ≡ well_formed x.now }
+{
+    x.preference < PREFERENCES && locks_formed(x.preference, &x.locks)
+}
+
+// The same of a cluster that is given. One that is lent is not copied for the test.
 pub fn well_formed(x: Cluster) -> bool
     ensures { result ≡ well_formed x }
 {
-    x.preference < PREFERENCES && locks_formed(x.preference, &x.locks)
+    is_well_formed(&x)
 }
