@@ -1,5 +1,5 @@
 // The agent that the script makes: `agent ..`.
-use crate::line::{numbers_in, parted};
+use crate::line::command;
 use crate::print::Output;
 use model::{AgentSlot, ClientId, Mode, Waiter};
 use parts::blank::{new_agent, some_agent};
@@ -23,10 +23,9 @@ fn absent(m: u8) -> AgentSlot {
 
 // What the command s makes of the slot.
 pub fn made(out: &mut Output<'_, impl Print>, slot: &mut AgentSlot, s: &[u8]) {
-    let Some(numbers) = numbers_in(s) else {
+    let Some((word, numbers)) = command(s) else {
         return out.not_understood(s);
     };
-    let (word, _) = parted(s);
     match (word, numbers.as_slice()) {
         (b"new", &[m]) => *slot = some_agent(new_agent(mode(m))),
         (b"absent", &[m]) => *slot = absent(m),

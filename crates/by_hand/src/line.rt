@@ -24,7 +24,7 @@ fn number(digits: &[u8]) -> Result<u8, u8> {
 }
 
 // The numbers of the text, whatever stands between them. No command has more than MOST of them, or one above 255.
-pub fn numbers_in(s: &[u8]) -> Option<ArrayVec<u8, MOST>> {
+fn numbers_in(s: &[u8]) -> Option<ArrayVec<u8, MOST>> {
     let mut numbers = ArrayVec::new();
     for digits in s
         .split(|b| !b.is_ascii_digit())
@@ -33,6 +33,12 @@ pub fn numbers_in(s: &[u8]) -> Option<ArrayVec<u8, MOST>> {
         numbers.try_push(number(digits).ok()?).ok()?;
     }
     Some(numbers)
+}
+
+// The text's first word and its numbers: what tells one command from another.
+pub fn command(s: &[u8]) -> Option<(&[u8], ArrayVec<u8, MOST>)> {
+    let (word, _) = parted(s);
+    Some((word, numbers_in(s)?))
 }
 
 // The first N numbers of the text, whatever follows them: 0 for one that it does not have, and of one above 255 as many digits as a byte has room for.

@@ -1,6 +1,6 @@
 // The state that the script makes of a lock: `lock ..`.
 use crate::agents::mode;
-use crate::line::{numbers_in, parted};
+use crate::line::command;
 use crate::print::Output;
 use model::{
     AgentSlot, ClientState, Decider, LockState, MachineId, Owner, Packet, Status, WIRE_CAPACITY,
@@ -38,10 +38,9 @@ pub fn made(
     packet: &Packet,
     s: &[u8],
 ) {
-    let Some(numbers) = numbers_in(s) else {
+    let Some((word, numbers)) = command(s) else {
         return out.not_understood(s);
     };
-    let (word, _) = parted(s);
     match (word, numbers.as_slice()) {
         (b"owned", &[_, m, k]) => state.decider = owned(m, k),
         (b"free", &[_]) => state.decider = unowned(),

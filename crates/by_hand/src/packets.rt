@@ -1,6 +1,6 @@
 // The packet that the script makes: `packet ..`.
 use crate::agents::mode;
-use crate::line::{numbers_in, parted};
+use crate::line::command;
 use crate::print::Output;
 use model::{Address, AgentSlot, ClientId, MachineId, Message, Packet};
 use parts::blank::plain_packet;
@@ -32,10 +32,9 @@ fn release(c: u8) -> Packet {
 
 // What the command s makes of the packet. The slot is what it carries when the command says so.
 pub fn made(out: &mut Output<'_, impl Print>, packet: &mut Packet, slot: &AgentSlot, s: &[u8]) {
-    let Some(numbers) = numbers_in(s) else {
+    let Some((word, numbers)) = command(s) else {
         return out.not_understood(s);
     };
-    let (word, _) = parted(s);
     match (word, numbers.as_slice()) {
         (b"ACQUIRE", &[c, m]) => *packet = acquire(c, m, false),
         (b"MARKED", &[c, m]) => *packet = acquire(c, m, true),

@@ -6,8 +6,8 @@ ghost use Rattle.model.specs.States.{wire_of, fresh_lock, fresh_with};
 ghost use Rattle.model.specs.Calls.{refusing, fresh};
 
 use model::{
-    CLIENTS, Cluster, LOCKS, LockState, MACHINES, Outcome, PREFERENCES, Refusal,
-    WIRE_CAPACITY, Wire,
+    CLIENTS, Cluster, LOCKS, LockState, MACHINES, Outcome, PREFERENCES, Refusal, WIRE_CAPACITY,
+    Wire,
 };
 use parts::blank::{IDLE, blank_packet, no_agent, unowned};
 

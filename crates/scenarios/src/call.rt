@@ -1,6 +1,6 @@
 // A call, printed with its answer. After a refusal the line says whether the whole cluster is as it was.
 use crate::handlings;
-use by_hand::line::{first_numbers, numbers_in, parted};
+use by_hand::line::{command, first_numbers, parted};
 use by_hand::print::Output;
 use model::{Answer, Call, Cluster, Drained, Handling, LockId, MachineId, Outcome, TaskId};
 
@@ -29,8 +29,7 @@ pub enum Line {
 
 // The call that the text says.
 pub fn call_of(s: &[u8]) -> Option<Call> {
-    let numbers = numbers_in(s)?;
-    let (word, _) = parted(s);
+    let (word, numbers) = command(s)?;
     match (word, numbers.as_slice()) {
         (b"acquire", &[l, k, t, mode]) => Some(Call::Acquire {
             lock: LockId(l),
@@ -62,8 +61,7 @@ pub fn call_of(s: &[u8]) -> Option<Call> {
 
 // The lock that the text says to drain.
 fn drain_of(s: &[u8]) -> Option<LockId> {
-    let numbers = numbers_in(s)?;
-    let (word, _) = parted(s);
+    let (word, numbers) = command(s)?;
     match (word, numbers.as_slice()) {
         (b"drain", &[l]) => Some(LockId(l)),
         _ => None,

@@ -1,5 +1,5 @@
 // What lock 0 has, a line for each thing asked, and whether the cluster is fresh, or as the one that was kept: `show ..`.
-use by_hand::line::{numbers_in, parted};
+use by_hand::line::command;
 use by_hand::print::Output;
 use counts::{agents_in, marks_in};
 use model::{
@@ -126,10 +126,9 @@ fn kept(out: &mut Output<'_, impl Print>, x: &Cluster, y: &Cluster) {
 
 // The cluster y is the one that was kept.
 pub fn shown(out: &mut Output<'_, impl Print>, x: &Cluster, y: &Cluster, s: &[u8]) {
-    let Some(numbers) = numbers_in(s) else {
+    let Some((word, numbers)) = command(s) else {
         return out.not_understood(s);
     };
-    let (word, _) = parted(s);
     let lock = &x.locks[0];
     match (word, numbers.as_slice()) {
         (b"fresh", &[]) => fresh(out, x),
