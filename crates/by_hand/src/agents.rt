@@ -6,11 +6,7 @@ use parts::blank::{new_agent, some_agent};
 
 // The mode of document 01's number; any other number than 2 is shared.
 pub fn mode(m: u8) -> Mode {
-    if m == 2 {
-        Mode::Exclusive
-    } else {
-        Mode::Shared
-    }
+    Mode::try_from(m).unwrap_or(Mode::Shared)
 }
 
 // An agent that is not there has its parts all the same.

@@ -155,8 +155,11 @@ module _ (x : Cluster) (l : LockId) (d : LockState) (a : Answer) (e : Draining) 
   agreed : Agree allowance None x l (drainage allowance l x) (record { answer = a; at = e })
   agreed = rw (q.with l, lock_read x l d w h) (agree allowance None x l w h)
 
-  pub made : e.left ≤ allowance
-  made = omega (arith, agreed.count)
+  pub made : length (drainage allowance l x).calls + e.left ≡ allowance
+  made = agreed.count
+
+  pub left_fits : e.left ≤ allowance
+  left_fits = omega (arith, made)
 
   drain_by : drain x l ≡ drain_ended a x (drainage allowance l x)
   unfolding drain drain_unless first
@@ -261,7 +264,7 @@ clients_next l cs =
     (either_turn l (option_map releasing (position holds cs)) (option_map giving_up (position noted cs)))
 
 module _ (l : LockId) (s : LockState) where
-  next_delivers : 0 < length (packets s.wire) → next_call l s ≡ some (DeliverCall l 0)
+  pub next_delivers : 0 < length (packets s.wire) → next_call l s ≡ some (DeliverCall l 0)
   unfolding next_of
   next_delivers h = go (packets s.wire) h
     where
@@ -323,7 +326,7 @@ module _ (n : ℕ) (t : LockState) (f : lock_formed n t ≡ true) where
           plans = g;
         }
 
-    nobodys_turn : turn_of t.clients ≡ None → (l : LockId) → next_call l t ≡ none
+    pub nobodys_turn : turn_of t.clients ≡ None → (l : LockId) → next_call l t ≡ none
     nobodys_turn q l = next_turn l t (wire_length ∙ e) ∙ rw q
 
 -- ---- along a phase

@@ -147,7 +147,7 @@ fn drain_refused(r: Refusal, x: Cluster) -> Drained
 }
 
 // A well-formed cluster and a lock of it: only that lock's state is drained.
-#[tactic(auto, using(laws::specs::Formed::read_formed, crate::specs::DrainState::made, crate::specs::DrainState::drain_ends, crate::specs::DrainState::drain_stops))]
+#[tactic(auto, using(laws::specs::Formed::read_formed, crate::specs::DrainState::left_fits, crate::specs::DrainState::drain_ends, crate::specs::DrainState::drain_stops))]
 fn drain_lock(mut x: Cluster, l: LockId) -> Drained
     requires { (well_formed x ≡ true) × (l.0 < locks) }
     ensures { result ≡ drain x l }

@@ -3,9 +3,9 @@
 // stands `&&`: joined by `&`, what they found would be put together bit by bit.
 #![tactic(auto)]
 
-ghost use Rattle.std.specs.Prelude.{◌≡◌, ◌&&◌, ◌||◌, not, length, take, drop, eqb};
+ghost use Rattle.std.specs.Prelude.{◌≡◌, ◌&&◌, not, length, eqb};
 ghost use Rattle.model.specs.Lists.{all};
-ghost use Rattle.model.specs.States.{locks, machines, clients, is_shared};
+ghost use Rattle.model.specs.States.{locks, machines, clients};
 ghost use Rattle.model.specs.WellFormed.{client_in_range, owner_in_range, decider_formed, address_in_range, is_blank_waiter, distinct, waiter_in_range};
 ghost use Rattle.model.specs.WellFormed.{queue_formed, agent_formed, is_blank_agent, slot_formed, to_decider};
 ghost use Rattle.model.specs.WellFormed.{message_formed, circled_formed, packet_formed};

@@ -2,10 +2,10 @@
 use counts::{agents_in, marks_in};
 use engine::drain;
 use listing::Lines;
-use lock_calls::lock_of;
+use lock_calls::{client_in_range, lock_of};
 use model::{
-    Answer, Call, ClientId, Cluster, Handling, LOCKS, LockId, LockState, MACHINES, MachineId,
-    Numbered, Outcome, Refusal, Replayed, TASKS, TaskId,
+    Answer, Call, Cluster, Handling, LOCKS, LockId, LockState, MachineId, Numbered, Outcome,
+    Refusal, Replayed, TaskId,
 };
 use parts::search::first_naming;
 use state_json::{put_field, put_list, put_optional, put_state};
@@ -55,14 +55,7 @@ fn put_call(lines: &mut Lines, c: Call) {
 // Which packet names the client first, on the lock's wire.
 fn named_on(x: &Cluster, l: LockId, m: MachineId, t: TaskId) -> Option<u8> {
     let s = x.locks.get(l.0 as usize)?;
-    if m.0 < MACHINES as u8 && t.0 < TASKS as u8 {
-        match first_naming(s.wire, ClientId(TASKS as u8 * m.0 + t.0)) {
-            Some(index) => Some(index),
-            None => None,
-        }
-    } else {
-        None
-    }
+    first_naming(s.wire, client_in_range(m, t).ok()?)
 }
 
 // The packet for which an acquire was refused as its client is still named.

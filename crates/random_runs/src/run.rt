@@ -82,11 +82,10 @@ impl Run {
     // Item 2: the call is made.
     fn call(&mut self, call: Call) {
         let o = perform(self.cluster, call);
-        let answer = o.answer.number();
-        let h = digested(self.digest, &[call.kind(), answer]);
+        let h = digested(self.digest, &[call.kind(), o.answer.number()]);
         self.digest = digest::handling(h, o.handling);
         self.cluster = o.cluster;
-        if answer == 0 {
+        if o.answer.is_ok() {
             self.accepted = self.accepted.wrapping_add(1);
         }
     }

@@ -14,7 +14,7 @@ struct Done {
 
 impl Done {
     fn is_accepted(self) -> bool {
-        matches!(self.answer, Ok(()))
+        self.answer.is_ok()
     }
 }
 

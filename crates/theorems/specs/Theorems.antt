@@ -1,5 +1,9 @@
 -- The proofs of the statements: the numbers, then for every list of calls.
-use Rattle.std.specs.Prelude.{◌≡◌, ◌∷◌, Ok}
+use Rattle.std.specs.Prelude.{◌≡◌, ◌∷◌, Ok, Err}
+use Rattle.model.specs.declared.{Mode.Mode, Mode.TheVariants.{Exclusive, Shared}}
+use Rattle.model.specs.Names.{ReasonAnswer}
+use Rattle.model.specs.States.{mode_of, mode_number}
+use Rattle.model.specs.Reasons.{reason_number}
 use Rattle.laws.specs.CallSteps.{perform_elsewhere}
 use Rattle.theorems.specs.Names.{LockState, Cluster, Call, Answer, refl, sym, ap, ◌∙◌, true, List, [], ℕ, all, lock_in, fresh, answers_of}
 use Rattle.theorems.specs.Names.{after, perform, number, unseen, both, map, get_or, Accepted, Refused, Malformed, LockRange, MachineRange, TaskRange}
@@ -45,6 +49,16 @@ stands (Refused CannotLose) = refl
 
 numbers_apart : (a b : Answer) → number a ≡ number b → a ≡ b
 numbers_apart a b e = sym (stands a) ∙ ap (λ (n : ℕ). get_or table n Accepted) e ∙ stands b
+
+-- a mode is read back from its number
+pub mode_back : (m : Mode) → mode_of (mode_number m) ≡ m
+mode_back Exclusive = refl
+mode_back Shared = refl
+
+-- and what the question for the reason is answered has one number, by either definition
+pub one_number : (a : ReasonAnswer) → number a ≡ reason_number a
+one_number (Ok r) = refl
+one_number (Err r) = refl
 
 pub numbered : Numbered
 numbered = record { apart = numbers_apart; accepts = λ a e. numbers_apart a Accepted e }
