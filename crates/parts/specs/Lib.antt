@@ -4,3 +4,4 @@ pub mod Arrays
 pub mod Writes
 pub mod Scans
 pub mod Search
+pub mod Sought

@@ -35,3 +35,7 @@ module _ {A : Type 0} (p : A → Bool) where
   found_first [] (Some i) h = absurd (omega (arith, h.0))
   found_first (x ∷ xs) (Some i) h =
       (at_get_or p (x ∷ xs) i x h.0 ∙ h.1 x, none_before (x ∷ xs) i (omega (arith, h.0)) (λ k d q. h.2 k d (omega arith) q))
+
+  -- the same, of another word for the index
+  pub found_as : (xs : List A) (i k : ℕ) → k ≡ i → IsFirst p xs (Some i) → IsFirst p xs (Some k)
+  found_as xs i k e h = rw e h

@@ -18,10 +18,10 @@ pub fn first_index<T, P: Fn(&T) -> bool>(slots: &[T], len: u8, passes: P) -> Opt
     requires { P.IsAlwaysCallable passes }
     ensures { (p : T → Bool) → Decides P.Fn passes p → IsFirst p (take len slots.now) result }
 {
-    in_use(slots, len)
-        .iter()
-        .position(|x| passes(x))
-        .map(|i| i as u8)
+    match in_use(slots, len).iter().position(|x| passes(x)) {
+        Some(i) => Some(i as u8),
+        None => None,
+    }
 }
 
 // The slot at i is out of the first n, those behind it move up, and the freed one is blank.

@@ -9,17 +9,25 @@ use crate::blank::blank_packet;
 use crate::slots::cut;
 use model::{ClientId, Message, Packet, Wire};
 
-// The wire without the packet at i.
+// The packet at i goes off the wire.
 #[tactic(auto, using(crate::specs::Writes::cut_off, crate::specs::Writes::none_off))]
-pub fn take_off(mut w: Wire, i: u8) -> Wire
-    requires { CanonicalWire w }
-    ensures { result ≡ wire_of (removed (packets w) i) }
+pub fn remove(w: &mut Wire, i: u8)
+    requires { CanonicalWire w.old }
+    ensures { w.new ≡ wire_of (removed (packets w.old) i) }
 {
     if i < w.len {
         let n = w.len;
         cut(&mut w.slots, i, n, blank_packet());
         w.len -= 1;
     }
+}
+
+// The wire without the packet at i.
+pub fn take_off(mut w: Wire, i: u8) -> Wire
+    requires { CanonicalWire w }
+    ensures { result ≡ wire_of (removed (packets w) i) }
+{
+    remove(&mut w, i);
     w
 }
 

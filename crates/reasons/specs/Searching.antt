@@ -43,9 +43,9 @@ module _ {A : Type 0} (c : ClientId) (g : A → AgentSlot) (f : ℕ → ℕ → 
   queueing xs = record { same = refl }
 
   module _ {xs : List A} {j : ℕ} (i : Queueing xs j) {x : A} (l : drop j xs ≡ x ∷ drop (j + 1) xs) where
-    pub queue_hit : {n : ℕ} → ahead_in c (g x) ≡ At n → Because (f j n) ≡ seek_queues 0 xs
+    pub queue_hit : {n k : ℕ} → ahead_in c (g x) ≡ At n → k ≡ n → Because (f j k) ≡ seek_queues 0 xs
     unfolding seek_queues
-    queue_hit t = rw (l, t) at i.same
+    queue_hit t e = rw e (rw (l, t) at i.same)
 
     pub queue_miss : ahead_in c (g x) ≡ Nowhere → Queueing xs (j + 1)
     unfolding seek_queues

@@ -8,7 +8,7 @@ ghost use Rattle.model.specs.Reasons.{first_true, reasons_in, reason_in};
 ghost use Rattle.reasons.specs.Searching.{ahead_in, seek_queues, on_machine, itself, inside, lost_reason, other_reason};
 
 use model::{AgentSlot, ClientId, LockState, MachineId, Packet, Reason, ReasonAnswer, Refusal};
-use parts::search::{first_packet, first_waiter, is_grant_for, is_request_of};
+use parts::search::{Sought, first_packet, first_waiter};
 use parts::slots::in_use;
 use parts::state::{is_waiting, note_at, status_at};
 
@@ -102,13 +102,13 @@ fn first_in_state(s: &LockState, c: ClientId) -> ReasonAnswer
 fn first_true(s: &LockState, c: ClientId) -> ReasonAnswer
     ensures { result ≡ first_true s.now c (reasons_in s.now) }
 {
-    if let Some(index) = first_packet(&s.wire, |p| is_request_of(c, p.message)) {
+    if let Some(index) = first_packet(&s.wire, Sought::Request, c) {
         return Ok(Reason::Requested { index });
     }
-    if let Some(index) = first_packet(&s.wire, |p| !p.rejected && is_grant_for(c, p.message)) {
+    if let Some(index) = first_packet(&s.wire, Sought::Grant, c) {
         return Ok(Reason::Granted { index });
     }
-    if let Some(index) = first_packet(&s.wire, |p| p.rejected && is_grant_for(c, p.message)) {
+    if let Some(index) = first_packet(&s.wire, Sought::RejectedGrant, c) {
         return Ok(Reason::Rejected { index });
     }
     first_in_state(s, c)
