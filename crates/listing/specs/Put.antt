@@ -13,11 +13,11 @@ module _ (o : List ℕ) (k b : ℕ) where
       let e : k + 1 ≡ min (length o) (suc k) = omega arith in
       rw e
 
-  pub put_beyond : length o ≤ k → filled o (length o) ≡ put (b ∷ []) (filled o k)
+  pub put_beyond : {m : ℕ} → length o ≤ k → m ≡ length o → filled o m ≡ put (b ∷ []) (filled o k)
   unfolding put
-  put_beyond h =
+  put_beyond h q =
       let e : min (length o) (suc k) ≡ length o = omega arith in
-      rw (set_out o k b h, e)
+      rw (q, set_out o k b h, e)
 
 put_append : (bs cs : List ℕ) (f : Filled) → put (bs ++ cs) f ≡ put cs (put bs f)
 unfolding put

@@ -30,7 +30,15 @@ impl<'a> Lines<'a> {
         Lines { out, at: 0 }
     }
 
-    // How many bytes of the buffer have lines.
+    // The same, but lines are put from a position on, within the buffer or past its end.
+    pub fn behind(out: &'a mut [u8], at: usize) -> Lines<'a>
+        ensures empty { lines_in result ≡ filled out.old at }
+        ensures same_buffer { result.out.ghost_name ≡ out.entry.ghost_name }
+    {
+        Lines { out, at }
+    }
+
+    // The position behind the lines.
     pub fn written(&self) -> usize
         ensures { result ≡ (lines_in self.now).at }
     {

@@ -6,4 +6,4 @@ pub returns-then-self : goal.returns-then-self
 returns-then-self c = record { behind = put_inside _ _ _ (omega arith); same_buffer = refl }
 
 pub returns-else-self : goal.returns-else-self
-returns-else-self c = record { behind = put_beyond _ _ _ (omega arith); same_buffer = refl }
+returns-else-self c = record { behind = put_beyond _ _ _ (omega arith) (omega arith); same_buffer = refl }
