@@ -1,6 +1,6 @@
 // The calls on one lock's state that is known to be well formed, for runs of calls: the cluster is tested once, and every call keeps it well formed
 // (laws/specs/Clusters.antt). What is left of a call are its tests on that state, and its step. `plan_call` gives the answer and what is to be
-// written, and writes nothing; `carry_out` makes an accepted step; `lock_of` is the call's lock, whose range the caller tests.
+// written, and writes nothing; `apply` makes an accepted step, `carry_out` on a copy; `lock_of` is the call's lock, whose range the caller tests.
 #![tactic(auto)]
 
 ghost use Rattle.std.specs.Prelude.{◌≡◌, true, List, ◌<◌, Err, MatchResult};
@@ -19,7 +19,7 @@ use model::{
 use parts::search::first_naming;
 use parts::state::status_at;
 use parts::wire::packet_at;
-pub use planning::plan::{Plan, carry_out};
+pub use planning::plan::{Plan, apply, carry_out};
 use planning::steps::{plan_acquire, plan_deliver, plan_give_up, plan_lose, plan_release};
 
 pub fn client_of(k: MachineId, t: TaskId) -> ClientId

@@ -14,7 +14,7 @@ use model::{
 use parts::blank::plain_packet;
 use parts::state::{put_agent, put_client};
 use parts::used::used;
-use parts::wire::take_off;
+use parts::wire::remove;
 use rules::effect::{Effect, Sends};
 
 // The packet goes to the wire's end.
@@ -113,33 +113,38 @@ pub(crate) fn plan_effect(
     })
 }
 
-// The wire without the packet at the index.
+// The packet at the index goes off the wire.
 #[tactic(auto, using(laws::specs::Shapes::wire_whole))]
-fn rest_of(w: &Wire, index: Option<u8>) -> Wire
-    requires { CanonicalWire w.now }
-    ensures { result ≡ wire_of (left_by index w.now) }
+fn take(w: &mut Wire, index: Option<u8>)
+    requires { CanonicalWire w.old }
+    ensures { w.new ≡ wire_of (left_by index w.old) }
 {
-    match index {
-        None => *w,
-        Some(i) => take_off(*w, i),
+    if let Some(i) = index {
+        remove(w, i);
     }
 }
 
-// An accepted step is made.
+// An accepted step is made on the state where it stands.
+pub fn apply(p: &Plan, s: &mut LockState)
+    requires { (CanonicalWire s.old.wire)
+        × (length (left_by p.now.index s.old.wire) + length (sent_by p.now.effect.sends) ≤ wire_capacity) }
+    ensures { s.new ≡ carried_out p.now s.old }
+{
+    let site = &p.effect.site;
+    take(&mut s.wire, p.index);
+    post(&mut s.wire, p.effect.sends);
+    s.decider = site.decider;
+    s.agents = put_agent(s.agents, p.machine, site.slot);
+    s.clients = put_client(s.clients, p.client, site.status, site.lost);
+}
+
+// The state that an accepted step leaves.
 pub fn carry_out(p: &Plan, s: &LockState) -> LockState
     requires { (CanonicalWire s.now.wire)
         × (length (left_by p.now.index s.now.wire) + length (sent_by p.now.effect.sends) ≤ wire_capacity) }
     ensures { result ≡ carried_out p.now s.now }
 {
-    let site = p.effect.site;
-    let mut wire = rest_of(&s.wire, p.index);
-    post(&mut wire, p.effect.sends);
-    let agents = put_agent(s.agents, p.machine, site.slot);
-    let clients = put_client(s.clients, p.client, site.status, site.lost);
-    LockState {
-        decider: site.decider,
-        agents,
-        clients,
-        wire,
-    }
+    let mut t = *s;
+    apply(p, &mut t);
+    t
 }

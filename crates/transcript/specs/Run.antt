@@ -66,6 +66,10 @@ module _ (c : Call) (v : Option Handling) (y : Cluster) where
     pub made_refused : {n : Refusal} → Plans (Err n) read (call_on y.preference c read) → Made c v y (Refused n) read.wire.len v y
     made_refused g = made_by (perform_refuses c y l d f g) refl (counted y _ f.0 (sym (lock_read y l d f.0 f.1.0)))
 
+-- of what is equal to what it makes, too
+pub made_equal : {c : Call} {v v' : Option Handling} {y z z' : Cluster} {a : Answer} {w w' : ℕ} → Made c v y a w v' z → w' ≡ w → z' ≡ z → Made c v y a w' v' z'
+made_equal m e f = rw (e, f) m
+
 -- ---- the run from the start, and its lines
 abbrev pub whole_run : List ℕ → Cluster → Replayed
 whole_run bytes x = replay_from (length bytes + 1) bytes 0 0 None x

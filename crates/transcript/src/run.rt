@@ -10,7 +10,7 @@ ghost use Rattle.transcript.specs.Run.{Made};
 
 use formed::well_formed;
 use listing::Lines;
-use lock_calls::{carry_out, lock_of, plan_call};
+use lock_calls::{apply, lock_of, plan_call};
 use model::{Answer, Call, Cluster, Handling, LOCKS, Reading, Refusal, Replayed};
 use records::reader::read_at;
 
@@ -32,15 +32,13 @@ fn make(call: Call, told: &mut Option<Handling>, y: &mut Cluster) -> (Answer, u8
         return (Err(Refusal::LockRange), 0);
     }
     let i = l.0 as usize;
-    let s = y.locks[i];
-    match plan_call(y.preference, call, &s) {
+    match plan_call(y.preference, call, &y.locks[i]) {
         Ok(plan) => {
-            let t = carry_out(&plan, &s);
-            y.locks[i] = t;
+            apply(&plan, &mut y.locks[i]);
             *told = plan.handling.or(*told);
-            (Ok(()), t.wire.len)
+            (Ok(()), y.locks[i].wire.len)
         }
-        Err(refusal) => (Err(refusal), s.wire.len),
+        Err(refusal) => (Err(refusal), y.locks[i].wire.len),
     }
 }
 
