@@ -1,8 +1,8 @@
 -- The derived == of each type of the model decides whether two of its values are the same.
-use Rattle.std.specs.Prelude.{◌≡◌}
+use Rattle.std.specs.Prelude.{◌≡◌, List}
 use Rattle.std.specs.Bool.{Decides}
 use Rattle.std.specs.Cmp.{booleans_Decides}
-use Rattle.std.specs.Cmp.Lexicographic.{pointwise_decides}
+use Rattle.std.specs.Cmp.Lexicographic.{pointwise, pointwise_decides}
 use Rattle.std.proofs.Common.{arith}
 use Rattle.std.proofs.lemmas.Grind.{common_steps}
 use Rattle.std.proofs.lemmas.Bool.Decides.{Decides-eqb}
@@ -30,7 +30,7 @@ modes x y = grind (arith, common_steps)
 owners : (x y : Owner) → Decides (owner.ghosts.eq x y) (x ≡ y)
 owners x y = grind (arith, common_steps, Decides-eqb, modes)
 
-deciders : (x y : Decider) → Decides (decider.ghosts.eq x y) (x ≡ y)
+pub deciders : (x y : Decider) → Decides (decider.ghosts.eq x y) (x ≡ y)
 deciders x y = grind (arith, common_steps, Decides-eqb, booleans_Decides, owners)
 
 waiters : (x y : Waiter) → Decides (waiter.ghosts.eq x y) (x ≡ y)
@@ -42,10 +42,13 @@ queues x y = grind (arith, common_steps, Decides-eqb, pointwise_decides waiters 
 agents : (x y : Agent) → Decides (agent.ghosts.eq x y) (x ≡ y)
 agents x y = grind (arith, common_steps, Decides-eqb, modes, pointwise_decides booleans_Decides x.holders y.holders, queues)
 
-slots : (x y : AgentSlot) → Decides (slot.ghosts.eq x y) (x ≡ y)
+pub slots : (x y : AgentSlot) → Decides (slot.ghosts.eq x y) (x ≡ y)
 slots x y = grind (arith, common_steps, booleans_Decides, agents)
 
-addresses : (x y : Address) → Decides (address.ghosts.eq x y) (x ≡ y)
+pub machines : (xs ys : List AgentSlot) → Decides (pointwise (slot.ghosts.eq) xs ys) (xs ≡ ys)
+machines = pointwise_decides slots
+
+pub addresses : (x y : Address) → Decides (address.ghosts.eq x y) (x ≡ y)
 addresses x y = grind (arith, common_steps, Decides-eqb)
 
 messages : (x y : Message) → Decides (message.ghosts.eq x y) (x ≡ y)

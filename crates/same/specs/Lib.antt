@@ -1,0 +1,2 @@
+-- What a test of two elements says.
+pub mod Tests
