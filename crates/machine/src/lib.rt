@@ -15,7 +15,7 @@ use model::{
     Address, Agent, AgentSlot, CLIENTS, ClientId, Handling, Message, Mode, Packet, Queue, Site,
     Status, Waiter,
 };
-use parts::blank::{empty_queue, plain_packet, some_agent};
+use parts::blank::{empty_queue, plain_packet, resent, some_agent};
 use parts::holders::{is_shared, join, set_holder};
 use queues::{no_room, push, push_front, queued, taken_off};
 use rules::asking::{may_join, queue_last};
@@ -119,9 +119,8 @@ fn sent_back(p: Packet) -> Packet
     ensures { result ≡ sent_back p }
 {
     Packet {
-        to: Address::Decider,
         circled: p.circled.saturating_add(1),
-        ..p
+        ..resent(p, Address::Decider, p.rejected)
     }
 }
 
